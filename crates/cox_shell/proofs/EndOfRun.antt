@@ -25,7 +25,7 @@ use Rattle.cox_shell.specs.Status.{is_read_fault, is_write_fault}
 use Rattle.cox_shell.specs.Stopping.{status_of}
 use Rattle.cox_shell.specs.Reply.{State, Reply, texts}
 use Rattle.cox_shell.specs.Answer.{AreReplies, state_behind, has_quit, bytes_of}
-use Rattle.cox_shell.specs.Keeping.{Keeps}
+use Rattle.cox_shell.specs.Keeping.{KeepsState}
 use Rattle.cox_shell.specs.Run.{Stand, IsServed, IsCutOff, Serves, stopped_read_fault, stopped_write_fault}
 use Rattle.cox_shell.specs.Outcome.{HasRead, WritesPrefix, WritesAll, StopsThere, IsCutShort, AnswersAll, AnswersEnded}
 use Rattle.cox_shell.specs.Outcome.{AnswersToFault, AnswersToLimit, Runs}
@@ -73,7 +73,7 @@ all_so_far : (refused : Bool) (old now next : Stand) (p : Progress refused old n
 all_so_far refused old now next p none same stays = record {
   replies = p.done;
   are_replies = no_more refused old now p none;
-  behind = subst (λ (state : State). Keeps state (state_behind old.state p.done)) (sym stays) p.behind;
+  behind = subst (λ (state : State). KeepsState state (state_behind old.state p.done)) (sym stays) p.behind;
   writes = subst (λ out. Writes (texts p.done) old.out out) (sym same) p.writes;
 }
 
@@ -114,7 +114,7 @@ meets_end refused old now next p read m whole same stays =
         are_all = inr (m.end, rw test (sym whole));
         replies = p.done;
         are_replies = so_far refused old now p;
-        behind = subst (λ (state : State). Keeps state (state_behind old.state p.done)) (sym stays) p.behind;
+        behind = subst (λ (state : State). KeepsState state (state_behind old.state p.done)) (sym stays) p.behind;
         writes = subst (λ out. Writes (texts p.done) old.out out) (sym same) p.writes;
       });
     }
@@ -177,7 +177,7 @@ ends_at_step refused old now next going p s =
         are_replies = IfSome-made (λ more. lines ++ more) (λ all. AreReplies old.state all replies) (lines_ahead old.ahead)
             (lines_ahead next.ahead) read.cut
             (IfSome-each (λ more. AreReplies old.state (lines ++ more) replies) (lines_ahead next.ahead) (λ more. all more));
-        behind = subst (λ (state : State). Keeps next.state state) (sym (state_behind-push old.state p.done s.reply)) s.keeps;
+        behind = subst (λ (state : State). KeepsState next.state state) (sym (state_behind-push old.state p.done s.reply)) s.keeps;
         writes = written;
       };
       refuses = has_refusal-push p.done s.reply refused false p.refuses s.refuses ∙ or-false refused;
@@ -208,7 +208,7 @@ ended_so_far refused old now next p read begun unbroken part none_pending within
   are_replies = subst (λ lines. AreReplies old.state lines p.done)
       (sym (read.ended refl begun ∙ ap (λ l. p.lines ++ l) (ended_lines-none begun unbroken) ∙ append-nil p.lines))
       (so_far refused old now p);
-  behind = subst (λ (state : State). Keeps state (state_behind old.state p.done)) (sym stays) p.behind;
+  behind = subst (λ (state : State). KeepsState state (state_behind old.state p.done)) (sym stays) p.behind;
   none_quits = p.quits;
   writes = subst (λ out. Writes (texts p.done) old.out out) (sym same) p.writes;
 }

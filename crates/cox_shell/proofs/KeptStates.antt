@@ -14,7 +14,7 @@ use Rattle.cox_command.specs.BlockLines.{list_word_of}
 use Rattle.cox_replies.specs.Limits.{Limits}
 use Rattle.cox_shell.specs.Reply.{Kept, OpenList, State, Reply, closed, refusal, silence}
 use Rattle.cox_shell.specs.OpenLists.{then_line, then_block}
-use Rattle.cox_shell.specs.Keeping.{IsKeptOf, AreKeptOf, Keeps}
+use Rattle.cox_shell.specs.Keeping.{IsKeptOf, AreKeptOf, KeepsState}
 use Rattle.cox_shell.specs.ContentReply.{IsContentReply}
 use Rattle.cox_shell.specs.Blocks.{IsListReply}
 use Rattle.cox_shell.specs.ListReply.{IsWordReply, IsReplyInList, kept_reply}
@@ -33,15 +33,15 @@ same_parts : (l m : Limits) (g h : Option CoxeterMatrix) (o p : Option OpenList)
     → state_by l g o ≡ state_by m h p
 same_parts l m g h o p e f k = rw (e, f, k) refl
 
-pub Keeps-same : (kept state : State) → kept ≡ state → Keeps kept state
-Keeps-same kept state same = record {
+pub KeepsState-same : (kept state : State) → kept ≡ state → KeepsState kept state
+KeepsState-same kept state same = record {
   limits = ap (λ (s : State). s.limits) same;
   group = ap (λ (s : State). s.group) same;
   list = subst (λ (s : State). AreKeptOf kept.list s.list) same (same-kept kept.list);
 }
 
-pub Keeps-trans : (a b c : State) → Keeps a b → Keeps b c → Keeps a c
-Keeps-trans a b c p q = record {
+pub KeepsState-trans : (a b c : State) → KeepsState a b → KeepsState b c → KeepsState a c
+KeepsState-trans a b c p q = record {
   limits = p.limits ∙ q.limits;
   group = p.group ∙ q.group;
   list = by_lists a.list b.list c.list p.list q.list;
@@ -59,12 +59,12 @@ pub record IsLike (reply other : Reply) : Type 0 where
   pub text : other.text ≡ reply.text
   pub refused : other.refused ≡ reply.refused
   pub quits : other.quits ≡ reply.quits
-  pub keeps : Keeps reply.after other.after
+  pub keeps : KeepsState reply.after other.after
 
 itself : (reply : Reply) → IsLike reply reply
-itself reply = record { text = refl; refused = refl; quits = refl; keeps = Keeps-same reply.after reply.after refl }
+itself reply = record { text = refl; refused = refl; quits = refl; keeps = KeepsState-same reply.after reply.after refl }
 
-module _ (kept state : State) (keeps : Keeps kept state) where
+module _ (kept state : State) (keeps : KeepsState kept state) where
   same_closed : closed kept ≡ closed state
   same_closed = same_parts kept.limits state.limits kept.group state.group None None keeps.limits keeps.group refl
 
@@ -114,7 +114,7 @@ module _ (kept state : State) (keeps : Keeps kept state) where
     text = sym (ap (λ (r : Reply). r.text) is);
     refused = sym (ap (λ (r : Reply). r.refused) is);
     quits = sym (ap (λ (r : Reply). r.quits) is);
-    keeps = subst (λ (s : State). Keeps s (record state { list = Some m })) (sym (ap (λ (r : Reply). r.after) is))
+    keeps = subst (λ (s : State). KeepsState s (record state { list = Some m })) (sym (ap (λ (r : Reply). r.after) is))
         (record { limits = keeps.limits; group = keeps.group; list = which });
   }
 
@@ -166,11 +166,11 @@ pub record Steps (refused quits : Bool) (state : State) (old new : Stand) : Type
   pub reply : Reply
   pub is_reply : IsReply state line reply
   pub writes : Writes reply.text old.out new.out
-  pub keeps : Keeps new.state reply.after
+  pub keeps : KeepsState new.state reply.after
   pub refuses : is_some reply.refused ≡ refused
   pub quitting : reply.quits ≡ quits
 
-pub served-steps : (refused quits : Bool) (state : State) (old new : Stand) → Keeps old.state state → IsServed refused quits old new
+pub served-steps : (refused quits : Bool) (state : State) (old new : Stand) → KeepsState old.state state → IsServed refused quits old new
     → Steps refused quits state old new
 served-steps refused quits state old new keeps s =
     let p = reply-kept old.state state keeps s.taken.line s.reply s.taken.is_reply in
@@ -180,7 +180,7 @@ served-steps refused quits state old new keeps s =
       reply = p.0;
       is_reply = p.1;
       writes = subst (λ t. Writes t old.out new.out) (sym p.2.text) s.writes;
-      keeps = Keeps-trans new.state s.reply.after p.0.after s.keeps p.2.keeps;
+      keeps = KeepsState-trans new.state s.reply.after p.0.after s.keeps p.2.keeps;
       refuses = ap is_some p.2.refused ∙ s.refuses;
       quitting = p.2.quits ∙ s.quitting;
     }

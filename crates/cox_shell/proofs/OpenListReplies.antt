@@ -15,7 +15,7 @@ use Rattle.cox_shell.specs.ContentReply.{IsContentReply}
 use Rattle.cox_shell.specs.Blocks.{AreKeptReplies, IsListReply, IsEndOfList, list_answered}
 use Rattle.cox_shell.specs.ListReply.{IsReplyTo, IsReplyInList, unread_reply}
 use Rattle.cox_shell.specs.Answer.{IsClosing}
-use Rattle.cox_shell.specs.Keeping.{with_kept, with_next, Keeps}
+use Rattle.cox_shell.specs.Keeping.{with_kept, with_next, KeepsState}
 use Rattle.cox_shell.specs.Saying.{IsSaid}
 use Rattle.cox_shell.specs.AnsweredText.{Numbered, numbered, no_text, said_by, AnswersBlocks, AnswersList}
 use Rattle.cox_shell.specs.declared.session.Stage.{Stage}
@@ -35,10 +35,10 @@ unread_outside state why none = ap (λ o. kept_refusal o state why) none
 
 -- a block begins, the list ends, or the line is kept
 pub next_reply : (state : State) (content : List ℕ) → IsSome state.list → list_word_of (tokens_of content) ≡ Some Next
-    → (after : State) × IsReplyTo state content (silence after) × Keeps (with_next state) after
+    → (after : State) × IsReplyTo state content (silence after) × KeepsState (with_next state) after
 next_reply state content some next = by_list state.list refl some where
   by_list : (o : Option OpenList) → state.list ≡ o → IsSome o
-      → (after : State) × IsReplyTo state content (silence after) × Keeps (with_next state) after
+      → (after : State) × IsReplyTo state content (silence after) × KeepsState (with_next state) after
   by_list None e some = absurd (cc some)
   by_list (Some list) e some = (
     record state { list = Some (then_block list) },
@@ -56,13 +56,13 @@ end_reply state content reply end is = by_list state.list is where
 
 pub keep_reply : (state : State) (content : List ℕ) → IsSome state.list → list_word_of (tokens_of content) ≡ None
     → (after : State) × IsReplyTo state content (silence after)
-    × Keeps (with_kept state (record { content = content; refused = None })) after
+    × KeepsState (with_kept state (record { content = content; refused = None })) after
 keep_reply state content some no_word = by_list state.list refl some where
   line : Kept
   line = record { content = content; refused = None }
 
   by_list : (o : Option OpenList) → state.list ≡ o → IsSome o
-      → (after : State) × IsReplyTo state content (silence after) × Keeps (with_kept state line) after
+      → (after : State) × IsReplyTo state content (silence after) × KeepsState (with_kept state line) after
   by_list None e some = absurd (cc some)
   by_list (Some list) e some = (
     record state { list = Some (then_line list line) },
@@ -72,13 +72,13 @@ keep_reply state content some no_word = by_list state.list refl some where
 
 pub unread_kept : (state : State) (why : Refusal) → IsSome state.list
     → (after : State) × (unread_reply state why ≡ silence after)
-    × Keeps (with_kept state (record { content = []; refused = Some why })) after
+    × KeepsState (with_kept state (record { content = []; refused = Some why })) after
 unread_kept state why some = by_list state.list refl some where
   line : Kept
   line = record { content = []; refused = Some why }
 
   by_list : (o : Option OpenList) → state.list ≡ o → IsSome o
-      → (after : State) × (unread_reply state why ≡ silence after) × Keeps (with_kept state line) after
+      → (after : State) × (unread_reply state why ≡ silence after) × KeepsState (with_kept state line) after
   by_list None e some = absurd (cc some)
   by_list (Some list) e some = (
     record state { list = Some (then_line list line) },

@@ -11,9 +11,9 @@ use Rattle.cox_outside.specs.Outlet.{Writes}
 use Rattle.cox_outside.proofs.Known.{Writes-none, Writes-append}
 use Rattle.cox_shell.specs.Reply.{State, Reply, texts}
 use Rattle.cox_shell.specs.Answer.{AreReplies, state_behind, has_refusal, has_quit}
-use Rattle.cox_shell.specs.Keeping.{Keeps}
+use Rattle.cox_shell.specs.Keeping.{KeepsState}
 use Rattle.cox_shell.specs.Run.{Stand, IsServed}
-use Rattle.cox_shell.proofs.KeptStates.{Keeps-same, served-steps}
+use Rattle.cox_shell.proofs.KeptStates.{KeepsState-same, served-steps}
 use Rattle.cox_shell.proofs.LineReplies.{AreReplies-cons, AreReplies-rejoin}
 use Rattle.cox_shell.proofs.TakenLines.{TakenLines, TakenLines-none, TakenLines-one, TakenLines-append}
 
@@ -25,7 +25,7 @@ pub record Progress (refused : Bool) (old now : Stand) : Type 0 where
   pub as_many : length done ≡ length lines
   pub says : (more : List (List ℕ)) (rest : List Reply) → AreReplies (state_behind old.state done) more rest
       → AreReplies old.state (lines ++ more) (done ++ rest)
-  pub behind : Keeps now.state (state_behind old.state done)
+  pub behind : KeepsState now.state (state_behind old.state done)
   pub writes : Writes (texts done) old.out now.out
   pub refuses : has_refusal done ≡ refused
   pub quits : has_quit done ≡ false
@@ -67,7 +67,7 @@ Progress-start here going few = record {
   done = [];
   as_many = refl;
   says = λ more rest h. h;
-  behind = Keeps-same here.state here.state refl;
+  behind = KeepsState-same here.state here.state refl;
   writes = Writes-none here.out;
   refuses = refl;
   quits = refl;
@@ -94,7 +94,7 @@ Progress-more before refused old now next going p served =
           (p.says (s.line ∷ more) (s.reply ∷ rest)
           (AreReplies-cons (state_behind old.state p.done) (state_behind old.state (p.done ++ s.reply ∷ [])) s.line s.reply more rest
           s.is_reply s.quitting after h));
-      behind = subst (λ (state : State). Keeps next.state state) (sym after) s.keeps;
+      behind = subst (λ (state : State). KeepsState next.state state) (sym after) s.keeps;
       writes = subst (λ t. Writes t old.out next.out) (sym (texts-push p.done s.reply))
           (Writes-append (texts p.done) s.reply.text old.out now.out next.out p.writes s.writes);
       refuses = has_refusal-push p.done s.reply before refused p.refuses s.refuses;

@@ -19,8 +19,8 @@ use Rattle.cox_shell.specs.CommandReply.{Answers, IsInquiryReply}
 use Rattle.cox_replies.proofs.Unless.{PutsPrefix-none}
 use Rattle.cox_shell.specs.Saying.{Says, SaysKept, SaysPrefix, SaysText, Concludes}
 use Rattle.cox_replies.specs.Putting.{PutsUnless, IsEnded}
-use Rattle.cox_shell.specs.Keeping.{Keeps}
-use Rattle.cox_shell.proofs.KeptStates.{Keeps-same}
+use Rattle.cox_shell.specs.Keeping.{KeepsState}
+use Rattle.cox_shell.proofs.KeptStates.{KeepsState-same}
 
 -- nothing is said to a line that is answered nothing
 pub Says-silence : (state new : State) (out : List ℕ) → new ≡ state → Says Answered (silence state) new out out
@@ -117,24 +117,24 @@ pub Says-kept : (result : Result Said AllocError) (Was Is : Reply → Type 0) (s
     → IfOk result (λ said. (reply : Reply) × Was reply × Says said reply state before after)
     → IfOk result (λ said. (reply : Reply) × Is reply × SaysKept said reply state before after)
 Says-kept (Ok said) Was Is state before after of (reply, was, says) =
-    (reply, of reply was, record { is_said = says.is_said; text = says.text; keeps = Keeps-same state reply.after says.state_after })
+    (reply, of reply was, record { is_said = says.is_said; text = says.text; keeps = KeepsState-same state reply.after says.state_after })
 Says-kept (Err error) Was Is state before after of says = tt
 
 pub Says-kept_reply : (result : Result Said AllocError) (Was : State → Reply) (reply : Reply) (state : State) (before after : List ℕ)
     → reply ≡ Was state → IfOk result (λ said. Says said (Was state) state before after)
     → IfOk result (λ said. SaysKept said reply state before after)
 Says-kept_reply (Ok said) Was reply state before after is says =
-    rw is (record { is_said = says.is_said; text = says.text; keeps = Keeps-same state (Was state).after says.state_after })
+    rw is (record { is_said = says.is_said; text = says.text; keeps = KeepsState-same state (Was state).after says.state_after })
 Says-kept_reply (Err error) Was reply state before after is says = tt
 
 -- nothing is said to a line that is kept, or that begins a block
-kept-silence : (state kept after : State) (out : List ℕ) → state ≡ kept → Keeps kept after
+kept-silence : (state kept after : State) (out : List ℕ) → state ≡ kept → KeepsState kept after
     → SaysKept Answered (silence after) state out out
 kept-silence state kept after out same keeps =
-    record { is_said = (refl, refl); text = sym (append-nil out); keeps = subst (λ (s : State). Keeps s after) (sym same) keeps }
+    record { is_said = (refl, refl); text = sym (append-nil out); keeps = subst (λ (s : State). KeepsState s after) (sym same) keeps }
 
 pub silent-says : (result : Result Said AllocError) (next kept after : State) (Is : Reply → Type 0) (out : List ℕ) → Is (silence after)
-    → Keeps kept after → IfOk result (λ said. (said ≡ Answered) × (next ≡ kept))
+    → KeepsState kept after → IfOk result (λ said. (said ≡ Answered) × (next ≡ kept))
     → IfOk result (λ said. (reply : Reply) × Is reply × SaysKept said reply next out out)
 silent-says (Ok said) next kept after Is out is keeps done = (silence after, is, rw done.0 (kept-silence next kept after out done.1 keeps))
 silent-says (Err error) next kept after Is out is keeps done = tt
@@ -147,7 +147,7 @@ silent-breaks (Err error) old next after Is out is same =
 
 -- the same of the one reply that is right
 pub silent-one : (result : Result Said AllocError) (next kept after : State) (reply : Reply) (out : List ℕ) → reply ≡ silence after
-    → Keeps kept after → IfOk result (λ said. (said ≡ Answered) × (next ≡ kept)) → IfOk result (λ said. SaysKept said reply next out out)
+    → KeepsState kept after → IfOk result (λ said. (said ≡ Answered) × (next ≡ kept)) → IfOk result (λ said. SaysKept said reply next out out)
 silent-one (Ok said) next kept after reply out is keeps done = rw (done.0, is) (kept-silence next kept after out done.1 keeps)
 silent-one (Err error) next kept after reply out is keeps done = tt
 

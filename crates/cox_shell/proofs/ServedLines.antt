@@ -23,7 +23,7 @@ use Rattle.cox_shell.specs.Saying.{SaysKept}
 use Rattle.cox_shell.specs.declared.status.Stopped.{Stopped}
 use Rattle.cox_shell.specs.declared.status.Stopped.TheVariants as why
 use Rattle.cox_outside.proofs.Known.{Writes-none}
-use Rattle.cox_shell.specs.Run.{Stand, AnswersNext, Serves, TakesReplied, outcome_of}
+use Rattle.cox_shell.specs.Run.{Stand, AnswersNextLine, Serves, TakesReplied, outcome_of}
 
 -- a long content is refused so
 pub content_refusal-long : (content : List ℕ) → LINE_LIMIT < length content → content_refusal content ≡ Some LongLine
@@ -46,10 +46,10 @@ pub answers_refused : (said : Result Said AllocError) (why : Refusal) (line : Li
     (before after : List ℕ)
     → content_refusal (content_of line) ≡ Some why → TakesNext halt line old new → before ≡ []
     → IfOk said (λ s. (reply : Reply) × (reply ≡ unread_reply state why) × SaysKept s reply next before after)
-    → AnswersNext (outcome_of said) state next halt old new after
+    → AnswersNextLine (outcome_of said) state next halt old new after
 answers_refused said why line state next halt old new before after refused takes empty says =
     elim said as (λ r. IfOk r (λ s. (reply : Reply) × (reply ≡ unread_reply state why) × SaysKept s reply next before after)
-    → AnswersNext (outcome_of r) state next halt old new after) [
+    → AnswersNextLine (outcome_of r) state next halt old new after) [
       | Ok one ↦ λ s. (s.0, taken s.0 s.1, subst (λ b. SaysKept one s.0 next b after) empty s.2)
       | Err error ↦ λ s. (unread_reply state why, taken (unread_reply state why) refl)
     ] says
@@ -63,19 +63,19 @@ answers_refused said why line state next halt old new before after refused takes
     }
 
 -- where no line was answered, or there was no memory, nothing is written
-pub AnswersNext-serves : (stopped : Stopped) (old new : Stand) (buffer : List ℕ)
-    → AnswersNext (Err stopped) old.state new.state new.stop old.ahead new.ahead buffer → new.out ≡ old.out → Serves (Err stopped) old new
-AnswersNext-serves why.End old new buffer h same = (h.0, same, h.2)
-AnswersNext-serves why.ReadFault old new buffer h same = (h.0, same, h.2)
-AnswersNext-serves why.WriteFault old new buffer h same = absurd h
-AnswersNext-serves why.NoMemory old new buffer h same = record {
+pub AnswersNextLine-serves : (stopped : Stopped) (old new : Stand) (buffer : List ℕ)
+    → AnswersNextLine (Err stopped) old.state new.state new.stop old.ahead new.ahead buffer → new.out ≡ old.out → Serves (Err stopped) old new
+AnswersNextLine-serves why.End old new buffer h same = (h.0, same, h.2)
+AnswersNextLine-serves why.ReadFault old new buffer h same = (h.0, same, h.2)
+AnswersNextLine-serves why.WriteFault old new buffer h same = absurd h
+AnswersNextLine-serves why.NoMemory old new buffer h same = record {
   reply = h.0;
   taken = h.1;
   prefix = [];
   is_prefix = (h.0.text, refl);
   writes = rw same (Writes-none old.out);
 }
-AnswersNext-serves why.InputLimit old new buffer h same = (h.0, same, h.2)
+AnswersNextLine-serves why.InputLimit old new buffer h same = (h.0, same, h.2)
 
 -- where a refusal is known, there is one
 is_refusal : (found : Option Refusal) (P : Refusal → Type 0) → IsSomeAnd found P → is_some found ≡ true

@@ -25,7 +25,7 @@ use Rattle.cox_shell.specs.Blocks.{IsListReply}
 use Rattle.cox_replies.specs.SessionLimits.{limits_of}
 use Rattle.cox_shell.specs.Answer.{AreReplies, AreAllReplies, AreScriptReplies, IsClosing, state_behind, has_refusal, has_quit}
 use Rattle.cox_shell.specs.Answer.{script_lines, bytes_of}
-use Rattle.cox_shell.specs.Keeping.{Keeps}
+use Rattle.cox_shell.specs.Keeping.{KeepsState}
 use Rattle.cox_shell.specs.Run.{Stand, stand}
 use Rattle.cox_shell.specs.Outcome.{Runs, WritesPrefix, WritesAll, StopsThere, IsCutShort, AnswersAll, AnswersEnded}
 use Rattle.cox_shell.specs.Outcome.{EndsReading}
@@ -147,7 +147,7 @@ module _ (limits : Limits) (script : Option (List ℕ)) (old : Outlet) (state : 
 
   -- replies to lines, and to the end of reading
   abbrev all_replies : (lines : List (List ℕ)) (replies closing : List Reply) → AreReplies (opening limits) lines replies
-      → Keeps state (state_behind (opening limits) replies) → IsClosing state closing
+      → KeepsState state (state_behind (opening limits) replies) → IsClosing state closing
       → AreAllReplies (opening limits) lines (replies ++ closing)
   all_replies lines replies closing are behind closes = record {
     replies = replies;

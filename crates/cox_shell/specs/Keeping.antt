@@ -35,7 +35,7 @@ AreKeptOf (Some kept) None = ⊥
 AreKeptOf (Some kept) (Some list) = IsKeptOf kept list
 
 -- a session that keeps this stands in that state
-pub record Keeps (kept state : State) : Type 0 where
+pub record KeepsState (kept state : State) : Type 0 where
   pub limits : kept.limits ≡ state.limits
   pub group : kept.group ≡ state.group
   pub list : AreKeptOf kept.list state.list

@@ -13,7 +13,7 @@ use Rattle.cox_shell.specs.declared.status.Stopped.{Stopped}
 use Rattle.cox_shell.specs.declared.status.Stopped.TheVariants.{End, ReadFault, WriteFault, NoMemory, InputLimit}
 use Rattle.cox_shell.specs.Reply.{State, Reply}
 use Rattle.cox_shell.specs.LineReply.{IsReply}
-use Rattle.cox_shell.specs.Keeping.{Keeps}
+use Rattle.cox_shell.specs.Keeping.{KeepsState}
 use Rattle.cox_shell.specs.Saying.{SaysKept}
 
 -- the session's state, whether the reader stopped, what lies ahead of it, and what the sink tells
@@ -48,21 +48,21 @@ pub record TakesReplied (reply : Reply) (state : State) (halt : Option Stop) (ol
   pub is_reply : IsReply state line reply
 
 -- what answering the next line did: its reply stands in the buffer, or memory ran out for it, or no line was there
-abbrev pub AnswersNext : Result Said Stopped → State → State → Option Stop → Ahead → Ahead → List ℕ → Type 0
-AnswersNext (Ok said) before after halt old new buffer = (reply : Reply) × TakesReplied reply before halt old new
+abbrev pub AnswersNextLine : Result Said Stopped → State → State → Option Stop → Ahead → Ahead → List ℕ → Type 0
+AnswersNextLine (Ok said) before after halt old new buffer = (reply : Reply) × TakesReplied reply before halt old new
     × SaysKept said reply after [] buffer
-AnswersNext (Err NoMemory) before after halt old new buffer = (reply : Reply) × TakesReplied reply before halt old new
-AnswersNext (Err End) before after halt old new buffer = ReadsNext next.End halt old new × (buffer ≡ []) × (after ≡ before)
-AnswersNext (Err ReadFault) before after halt old new buffer = ReadsNext next.Failed halt old new × (buffer ≡ []) × (after ≡ before)
-AnswersNext (Err InputLimit) before after halt old new buffer = ReadsNext next.Limit halt old new × (buffer ≡ []) × (after ≡ before)
-AnswersNext (Err WriteFault) before after halt old new buffer = ⊥
+AnswersNextLine (Err NoMemory) before after halt old new buffer = (reply : Reply) × TakesReplied reply before halt old new
+AnswersNextLine (Err End) before after halt old new buffer = ReadsNext next.End halt old new × (buffer ≡ []) × (after ≡ before)
+AnswersNextLine (Err ReadFault) before after halt old new buffer = ReadsNext next.Failed halt old new × (buffer ≡ []) × (after ≡ before)
+AnswersNextLine (Err InputLimit) before after halt old new buffer = ReadsNext next.Limit halt old new × (buffer ≡ []) × (after ≡ before)
+AnswersNextLine (Err WriteFault) before after halt old new buffer = ⊥
 
 -- a line was taken and its reply written, which is a refusal or not, and ends the run or not
 pub record IsServed (refused quits : Bool) (old new : Stand) : Type 0 where
   pub reply : Reply
   pub taken : TakesReplied reply old.state new.stop old.ahead new.ahead
   pub writes : Writes reply.text old.out new.out
-  pub keeps : Keeps new.state reply.after
+  pub keeps : KeepsState new.state reply.after
   pub refuses : is_some reply.refused ≡ refused
   pub quitting : reply.quits ≡ quits
 

@@ -4,7 +4,7 @@ ghost use Rattle.std.specs.Prelude.{◌≡◌, [], None};
 ghost use Rattle.cox_outside.specs.Ahead.{ahead};
 ghost use Rattle.cox_outside.specs.Supply.{SourceCause};
 ghost use Rattle.cox_outside.specs.Outlet.{SinkCause};
-ghost use Rattle.cox_shell.specs.Run.{stand, AnswersNext, Serves, outcome_of, stopped_read_fault, stopped_write_fault};
+ghost use Rattle.cox_shell.specs.Run.{stand, AnswersNextLine, Serves, outcome_of, stopped_read_fault, stopped_write_fault};
 
 use crate::block_answerer::BlockAnswerer;
 use crate::session::{Given, Said, Session};
@@ -50,7 +50,7 @@ fn answer_next<M: BlockAnswerer, S: Source>(
     requires going { reader.old.stop ≡ None }
     requires empty { buffer.old.items ≡ [] }
     requires ready { M.ready maker.now }
-    ensures answers { AnswersNext result session.old session.new reader.new.stop
+    ensures answers { AnswersNextLine result session.old session.new reader.new.stop
         (ahead reader.old.feed (S.seen source.old).left) (ahead reader.new.feed (S.seen source.new).left) buffer.new.items }
     ensures cause { SourceCause (S.seen source.old) (S.seen source.new) (stopped_read_fault result) }
 {

@@ -74,7 +74,7 @@ pub enum Stage {
 /// calls that answer are for callers that have lines of their own.
 ///
 /// Contracts see the limits that its options give, the Coxeter matrix of the group that is set, and what is kept of the list of blocks that
-/// is open (`Keeps`): the whole list, or, of a list that is too long, no more than makes it so.
+/// is open (`KeepsState`): the whole list, or, of a list that is too long, no more than makes it so.
 #[derive(Drop)]
 pub struct Session {
     stage: Stage,

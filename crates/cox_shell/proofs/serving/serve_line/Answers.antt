@@ -3,13 +3,13 @@ use Rattle.std.proofs.Common.{◌≡◌, ◌<◌, length, refl, ◌∙◌, subst
 use Rattle.std.specs.Option.{IfSome}
 use Rattle.cox_outside.specs.Outlet.{IsPrefix}
 use Rattle.std.proofs.lemmas.Result.{err_from_is_err_and}
-use Rattle.cox_shell.proofs.ServedLines.{AnswersNext-serves, Says-serves}
+use Rattle.cox_shell.proofs.ServedLines.{AnswersNextLine-serves, Says-serves}
 use Rattle.cox_shell.proofs.serving.serve_line.Goals as goal
 
 pub returns-in_err-said-clause-serves : goal.returns-in_err-said-clause-serves
 returns-in_err-said-clause-serves g c =
     let p = err_from_is_err_and c.from_residual.result c.from_residual.ensures.1 in
-    rw (p.1, p.2) (AnswersNext-serves _ _ _ _ c.in_err-said.ensures.answers refl)
+    rw (p.1, p.2) (AnswersNextLine-serves _ _ _ _ c.in_err-said.ensures.answers refl)
 
 pub returns-in-Ok-clause-serves : goal.returns-in-Ok-clause-serves
 returns-in-Ok-clause-serves g c =
