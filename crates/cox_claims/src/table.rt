@@ -256,6 +256,3 @@ fn read_states(closed: &Closed<(), Global>, mut states: Vec<RowState>) -> Vec<Ro
     }
     states
 }
-
-#[cfg(test)]
-mod tests;

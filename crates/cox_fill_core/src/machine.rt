@@ -207,6 +207,3 @@ fn no_holders(alloc: Global, rows: usize) -> Result<Vec<Option<u32>>, NoMemory>
 {
     vec![in alloc; None; rows]
 }
-
-#[cfg(test)]
-mod tests;

@@ -23,8 +23,6 @@ mod prefixes;
 mod row_check;
 mod small;
 mod sums;
-#[cfg(test)]
-mod tests;
 
 pub use row_check::is_row;
 pub use small::is_small;

@@ -16,8 +16,6 @@ mod adjacency;
 mod components;
 mod digraph;
 mod search;
-#[cfg(test)]
-mod tests;
 
 pub use components::classes;
 pub use digraph::Digraph;

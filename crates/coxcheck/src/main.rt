@@ -5,12 +5,7 @@
 //! some, so where one is no text another stands for it. Each function but `main` is generic over the source and the sink, and its contract
 //! is that of one whole check, `IsCheck` of `cox_cert`, with the arguments that were collected, so nothing is read or written before it,
 //! behind it or beside it.
-//!
-//! - `tests`: whole checks over sources and sinks in memory
 #![tactic(auto)]
-
-#[cfg(test)]
-mod tests;
 
 ghost use Rattle.std.specs.Prelude.{◌≡◌, ◌≢◌, ℕ, List, [], map, drop, IfOk, IfErr, IfSome, IfNone};
 ghost use Rattle.std.specs.Process.{exit_status};

@@ -1,7 +1,0 @@
--- Edges change no number of vertices.
-use Rattle.std.proofs.Common.{◌≡◌}
-use Rattle.cox_scc.specs.Graph.{vertices_of}
-use Rattle.cox_scc.proofs.tests.star_of.Given as goal
-
-abbrev pub invariant-loop-b : goal.invariant-loop-b
-invariant-loop-b l = vertices_of l.graph ≡ l.n
