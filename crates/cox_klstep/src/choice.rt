@@ -29,7 +29,7 @@ struct Choice {
 
 /// Of the steps to the member with the number i by its descents on both sides that with the fewest corrections, among those whose rows are
 /// there. Ties go to the first: to the step by the least left descent, and then to the least letter, on the left before the right.
-pub(crate) fn cheapest_step<L: LowerRows>(
+pub(crate) fn step_with_fewest_corrections<L: LowerRows>(
     alloc: Global,
     ctx: &Context,
     i: u32,
@@ -62,7 +62,7 @@ pub(crate) fn cheapest_step<L: LowerRows>(
     if start.corrections == 0 {
         return Ok(first);
     }
-    let best = cheapest(ctx, lower, &start);
+    let best = with_fewest_corrections(ctx, lower, &start);
     if best.corrections == start.corrections {
         return Ok(first);
     }
@@ -77,7 +77,7 @@ pub(crate) fn cheapest_step<L: LowerRows>(
 }
 
 /// The choice with the fewest corrections; the one to start from where none has fewer.
-fn cheapest<L: LowerRows>(ctx: &Context, lower: &L, start: &Choice) -> Choice
+fn with_fewest_corrections<L: LowerRows>(ctx: &Context, lower: &L, start: &Choice) -> Choice
     requires lower { L.elements lower.now ≡ ctx.now }
     requires start { IsChoice ctx.now (L.holds lower.now) start.now.descent.member start.now.side start.now.descent start.now.corrections }
     ensures choice { IsChoice ctx.now (L.holds lower.now) start.now.descent.member result.side result.descent result.corrections }
@@ -87,14 +87,14 @@ fn cheapest<L: LowerRows>(ctx: &Context, lower: &L, start: &Choice) -> Choice
     let rank = ctx.matrix().rank() as u8;
     let mut best = *start;
     for s in 1..rank + 1 {
-        best = cheaper(ctx, start.descent.member, Side::Left, s, lower, &best);
-        best = cheaper(ctx, start.descent.member, Side::Right, s, lower, &best);
+        best = with_fewer_corrections(ctx, start.descent.member, Side::Left, s, lower, &best);
+        best = with_fewer_corrections(ctx, start.descent.member, Side::Right, s, lower, &best);
     }
     best
 }
 
 /// The step by a letter on a side where it has fewer corrections than the best one so far, else that.
-fn cheaper<L: LowerRows>(
+fn with_fewer_corrections<L: LowerRows>(
     ctx: &Context,
     i: u32,
     side: Side,

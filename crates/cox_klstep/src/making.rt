@@ -29,7 +29,8 @@ use cox_row_builder::{RowBuilder, StepFault, Steps};
 use std::alloc::{AllocError, Global};
 
 impl<'a> RowPlan<'a> {
-    /// Makes the row, of which some polynomials may have been found.
+    /// Makes the row, of which some polynomials may have been found. For each of those that it takes `steps` counts one, whatever was added
+    /// up to find it; what is added up for the others is counted as in [`row`](crate::row).
     ///
     /// `Coefficient` where a coefficient is above the limit in absolute value, at the first member x that has one and its least degree; and
     /// `Mu` where none is but a value of mu is above [`MU_LIMIT`](cox_row::MU_LIMIT).

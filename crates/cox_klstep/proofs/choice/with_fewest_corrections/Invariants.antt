@@ -2,7 +2,7 @@
 use Rattle.std.proofs.Common.{ℕ, ◌<◌}
 use Rattle.cox_base.specs.declared.side.Side.{Side}
 use Rattle.cox_klstep.specs.ChoiceOf.{HasNoFewer, IsChoice}
-use Rattle.cox_klstep.proofs.choice.cheapest.Given as goal
+use Rattle.cox_klstep.proofs.choice.with_fewest_corrections.Given as goal
 
 abbrev pub invariant-loop-s : goal.invariant-loop-s
 invariant-loop-s g l = record {

@@ -5,10 +5,10 @@ use Rattle.cox_base.specs.IntegerMatrix.{integer_matrix}
 use Rattle.cox_context.specs.Numbers.{word_at}
 use Rattle.cox_klstep.specs.StepOf.{correction_at}
 use Rattle.cox_klstep.proofs.Chosen.{numbered-same, least-needs}
-use Rattle.cox_klstep.proofs.choice.cheapest_step.Goals as goal
+use Rattle.cox_klstep.proofs.choice.step_with_fewest_corrections.Goals as goal
 
-pub cheapest-best-requires-clause-start : goal.cheapest-best-requires-clause-start
-cheapest-best-requires-clause-start g c =
+pub with_fewest_corrections-best-requires-clause-start : goal.with_fewest_corrections-best-requires-clause-start
+with_fewest_corrections-best-requires-clause-start g c =
     let d = c.of-least.ensures.descent
     in let needs = rw (← c.of-least.ensures.number) at c.requires.needs
     in let first = rw (c.in_ok-first.ensures.side, c.in_ok-first.ensures.letter, c.in_ok-first.ensures.number)
@@ -50,7 +50,7 @@ returns-then-best-start-clause-few g c = λ s numbers least are.
 
 pub returns-then-best-start-clause-fewest : goal.returns-then-best-start-clause-fewest
 returns-then-best-start-clause-fewest g c = λ side s h list are.
-    let fewest = rw c.of-least.ensures.number at c.cheapest-best.ensures.fewest
+    let fewest = rw c.of-least.ensures.number at c.with_fewest_corrections-best.ensures.fewest
     in let few = fewest side s h list are
     in omega (arith, few, c.len.ensures)
 
@@ -58,23 +58,30 @@ returns-then-best-start-clause-fewest g c = λ side s h list are.
 
 pub returns-clause-corrected : goal.returns-clause-corrected
 returns-clause-corrected g c = λ k l.
-    let n = rw (c.in_ok-step.ensures.side, c.in_ok-step.ensures.letter, c.in_ok-step.ensures.number, c.cheapest-best.ensures.choice.member)
-    at c.in_ok-step.ensures.step.numbered
-    in c.cheapest-best.ensures.choice.corrected (correction_at c.in_ok-step.step.corrections.items k).number
+    let n = rw (
+      c.in_ok-step.ensures.side,
+      c.in_ok-step.ensures.letter,
+      c.in_ok-step.ensures.number,
+      c.with_fewest_corrections-best.ensures.choice.member,
+    ) at c.in_ok-step.ensures.step.numbered
+    in c.with_fewest_corrections-best.ensures.choice.corrected (correction_at c.in_ok-step.step.corrections.items k).number
     (correction_at c.in_ok-step.step.corrections.items k).factor (n.within k l) (n.each k l)
 
 pub returns-clause-few : goal.returns-clause-few
 returns-clause-few g c = λ s numbers least are.
     let first = rw (c.in_ok-first.ensures.side, c.in_ok-first.ensures.letter, c.in_ok-first.ensures.number, c.of-least.ensures.number)
     at c.in_ok-first.ensures.step.numbered
-    in let n =
-    rw (c.in_ok-step.ensures.side, c.in_ok-step.ensures.letter, c.in_ok-step.ensures.number, c.cheapest-best.ensures.choice.member)
-    at c.in_ok-step.ensures.step.numbered
+    in let n = rw (
+      c.in_ok-step.ensures.side,
+      c.in_ok-step.ensures.letter,
+      c.in_ok-step.ensures.number,
+      c.with_fewest_corrections-best.ensures.choice.member,
+    ) at c.in_ok-step.ensures.step.numbered
     in let mine = rw c.of-least.ensures.number at c.of-least.ensures.descent.least
     in let most = least-needs (integer_matrix c.args.ctx.now.matrix) c.args.ctx.now.members c.of-least.result.letter
     (word_at c.args.ctx.now.members c.args.i) s mine least c.in_ok-first.first.corrections.items first numbers are
-    in let many = c.cheapest-best.ensures.choice.many c.in_ok-step.step.corrections.items n
-    in let fewest = rw c.of-least.ensures.number at c.cheapest-best.ensures.fewest
+    in let many = c.with_fewest_corrections-best.ensures.choice.many c.in_ok-step.step.corrections.items n
+    in let fewest = rw c.of-least.ensures.number at c.with_fewest_corrections-best.ensures.fewest
     in let few = fewest Left c.of-least.result.letter record {
       descent = mine.descent;
       shorter = λ j l is. c.requires.needs.shorter c.of-least.result.letter j mine l is;
@@ -84,10 +91,13 @@ returns-clause-few g c = λ s numbers least are.
 
 pub returns-clause-fewest : goal.returns-clause-fewest
 returns-clause-fewest g c = λ side s h list are.
-    let n =
-    rw (c.in_ok-step.ensures.side, c.in_ok-step.ensures.letter, c.in_ok-step.ensures.number, c.cheapest-best.ensures.choice.member)
-    at c.in_ok-step.ensures.step.numbered
-    in let many = c.cheapest-best.ensures.choice.many c.in_ok-step.step.corrections.items n
-    in let fewest = rw c.of-least.ensures.number at c.cheapest-best.ensures.fewest
+    let n = rw (
+      c.in_ok-step.ensures.side,
+      c.in_ok-step.ensures.letter,
+      c.in_ok-step.ensures.number,
+      c.with_fewest_corrections-best.ensures.choice.member,
+    ) at c.in_ok-step.ensures.step.numbered
+    in let many = c.with_fewest_corrections-best.ensures.choice.many c.in_ok-step.step.corrections.items n
+    in let fewest = rw c.of-least.ensures.number at c.with_fewest_corrections-best.ensures.fewest
     in let few = fewest side s h list are
     in omega (arith, few, many)

@@ -8,7 +8,7 @@ use Rattle.cox_context.specs.Closed.{Elements}
 use Rattle.cox_context.specs.Numbers.{word_at}
 use Rattle.cox_row_symmetry.proofs.DescentsOnSides.{lowered-letter}
 use Rattle.cox_klstep.specs.ChoiceOf.{HasNoFewer}
-use Rattle.cox_klstep.proofs.choice.cheapest.Goals as goal
+use Rattle.cox_klstep.proofs.choice.with_fewest_corrections.Goals as goal
 
 -- one letter, on both sides
 module _ (e : Elements) (holds : ℕ → Type 0) (i old m n s : ℕ) (first : m ≤ old) (second : n ≤ m)
@@ -35,11 +35,12 @@ loop-s-init g c = record {
 
 pub loop-s-preserved : goal.loop-s-preserved
 loop-s-preserved g c = record {
-  choice = c.cheaper-best-in-loop-s.ensures.choice;
+  choice = c.with_fewer_corrections-best-in-loop-s.ensures.choice;
   fewest = more c.args.ctx.now (g.L.LowerRows.holds c.args.lower.now) c.args.start.now.descent.member c.loop-s.best.corrections
-      c.cheaper-best.result.corrections c.cheaper-best-in-loop-s.result.corrections c.loop-s.s
-      c.cheaper-best.ensures.no_more c.cheaper-best-in-loop-s.ensures.no_more
-      c.cheaper-best.ensures.fewest c.cheaper-best-in-loop-s.ensures.fewest c.loop-s.invariant.fewest;
+      c.with_fewer_corrections-best.result.corrections c.with_fewer_corrections-best-in-loop-s.result.corrections c.loop-s.s
+      c.with_fewer_corrections-best.ensures.no_more c.with_fewer_corrections-best-in-loop-s.ensures.no_more
+      c.with_fewer_corrections-best.ensures.fewest c.with_fewer_corrections-best-in-loop-s.ensures.fewest
+      c.loop-s.invariant.fewest;
 }
 
 pub returns-clause-fewest : goal.returns-clause-fewest
