@@ -1,6 +1,6 @@
 -- Rows of the elements between two, among those that are kept: that they are held, and what faults of them say.
 use Rattle.std.proofs.Common.{◌≡◌, ℕ, ◌<◌, List, length, Contains, Option, None, Some, Result, Ok, Err}
-use Rattle.std.proofs.Common.{sym, ap, ◌∙◌, subst, arith, pos}
+use Rattle.std.proofs.Common.{arith, pos}
 use Rattle.std.specs.Prelude.{IfSome, IsSomeAnd, OnOk, IfErr}
 use Rattle.std.proofs.lemmas.Int.{ints}
 use Rattle.cox_base.specs.IntegerMatrix.{IntegerMatrix, integer_matrix}
@@ -8,7 +8,6 @@ use Rattle.cox_base.specs.Matrix.{CoxeterMatrix}
 use Rattle.cox_base.specs.Admissible.{IsAdmissible}
 use Rattle.cox_base.specs.Element.{SameElement}
 use Rattle.cox_base.specs.ShortLex.{normal_form}
-use Rattle.cox_base.specs.Bruhat.{IsBelow}
 use Rattle.cox_base.specs.Members.{IsInInterval}
 use Rattle.cox_base.specs.SortedList.{HasMoreThan}
 use Rattle.cox_reflect.proofs.Elements.{same-refl, same-sym}
@@ -18,8 +17,7 @@ use Rattle.cox_hecke.specs.ListedElements.{LiesBetween}
 use Rattle.cox_hecke.specs.Needs.{IsNeeded}
 use Rattle.cox_context.specs.Closed.{IsClosed}
 use Rattle.cox_context.specs.Numbers.{word_at}
-use Rattle.cox_context.specs.Numbering.{IsNumberOf}
-use Rattle.cox_context.proofs.PlacedWords.{contains-placed, contains-at}
+use Rattle.cox_context.proofs.PlacedWords.{contains-placed}
 use Rattle.cox_row.specs.Rising.{number_at}
 use Rattle.cox_row_builder.specs.declared.fault.StepFault.{StepFault}
 use Rattle.cox_row_builder.specs.declared.fault.StepFault.TheVariants.{Coefficient, Mu, NoMemory}
@@ -31,63 +29,64 @@ use Rattle.cox_inverse.specs.declared.interval.Interval.{Interval}
 use Rattle.cox_inverse.specs.Intervals.{IsInterval}
 use Rattle.cox_inverse.specs.declared.finite.WholeGroup.{WholeGroup}
 use Rattle.cox_inverse.specs.WholeGroups.{IsReadable}
-use Rattle.cox_options.specs.declared.options.Options.{Options}
-use Rattle.cox_answers.specs.Kept.{WorkspaceState, AreOf, AreKept, HoldsElement, IsMore, Keeps}
+use Rattle.cox_answers.specs.Kept.{AreOf, AreKept, IsMore, Keeps}
 use Rattle.cox_answers.specs.Faults.{unanswered_by, unless_fault}
-use Rattle.cox_answers.specs.KeptBetween.{IsSomeBeyond, RefusesBetween, HoldsBetween, IsFaultOfOne, IsReadOff}
+use Rattle.cox_answers.specs.KeptBetween.{IsSomeBeyond, RefusesBetween, HoldsEnds, HoldsBetween, IsFaultOfOne, IsReadOff}
+use Rattle.cox_answers.specs.declared.needs.Ends.{Ends}
 use Rattle.cox_replies.specs.InverseReply.{inverse_limit}
 use Rattle.cox_replies.specs.Limits.{Limits}
 use Rattle.cox_replies.specs.Listed.{RefusesLargeOr}
 use Rattle.cox_replies.specs.Question.{IsRefused}
-use Rattle.cox_replies.specs.SessionLimits.{limits_of}
 use Rattle.cox_replies.proofs.LargeOr.{large-free, large_or-allowed, large_or-refused}
 use Rattle.cox_answers.proofs.KeptMembers.{below-contained, none-needed, number-contains, member-few}
 
--- where the rows of all members are there, and none is beyond the limits
-module _ (limits : Limits) (G : CoxeterMatrix) (g : IsAdmissible (integer_matrix G)) (y w : List ℕ) (rows : Holding)
+-- the elements of y and w among the members
+module _ (limits : Limits) (G : CoxeterMatrix) (g : IsAdmissible (integer_matrix G)) (y w : List ℕ) (ends : Ends) (rows : Holding)
     (of : AreOf G limits rows) (closed : IsClosed (integer_matrix G) rows.elements.members)
-    (top : Contains rows.elements.members (normal_form (integer_matrix G) w)) where
+    (numbers : HoldsEnds (integer_matrix G) y w ends rows) where
   abbrev whole_members : List (List ℕ)
   whole_members = rows.elements.members
 
-  pub all-holds : ((i : ℕ) → i < length rows.elements.members → HasRow rows i) → IsBelow (integer_matrix G) y w
-      → HoldsBetween (integer_matrix G) y w rows
-  all-holds there below = record {
-    bottom = below-contained (integer_matrix G) g whole_members closed w top y below;
-    top = top;
-    held = λ z within between. there z within;
-  }
+  top : Contains rows.elements.members (normal_form (integer_matrix G) w)
+  top = number-contains whole_members (normal_form (integer_matrix G) w) ends.high numbers.high
+
+  -- the interval of w is not refused
+  pub ends-few : HasMoreThan limits.context (IsInInterval (integer_matrix G) w) → ⊥
+  ends-few = member-few limits G g w rows of closed top
+
+  -- where the rows of all members are there, and none is beyond the limits
+  pub all-holds : ((i : ℕ) → i < length rows.elements.members → HasRow rows i) → HoldsBetween (integer_matrix G) y w ends rows
+  all-holds there = record { numbers = numbers; held = λ z within between. there z within }
 
   pub all-allowed : ((i : ℕ) → i < length rows.elements.members
       → IsBeyond (integer_matrix rows.elements.matrix) rows.limit (word_at rows.elements.members i) → ⊥)
       → IsRefused (RefusesBetween limits (integer_matrix G) y w) None
-  all-allowed small = large_or-allowed limits (integer_matrix G) w (IsSomeBeyond (integer_matrix G) limits.coefficient y w)
-      (member-few limits G g w rows of closed top)
+  all-allowed small = large_or-allowed limits (integer_matrix G) w (IsSomeBeyond (integer_matrix G) limits.coefficient y w) ends-few
       (λ some. none-needed (integer_matrix G) g whole_members closed w top (pos limits.coefficient) (omega (arith, ints))
       (rw (of.group, of.limit) at small) some.0 some.1.below some.2)
 
 -- where inverse polynomials are read off the rows, the rows between a member and what is below it are held, and not refused
-pub read_off-keeps : (limits : Limits) (G : CoxeterMatrix) → IsAdmissible (integer_matrix G) → (y w : List ℕ) (i : ℕ) (rows : Holding)
-    (whole : WholeGroup) → AreOf G limits rows → IsReadOff rows whole → IsClosed (integer_matrix G) rows.elements.members
-    → IsNumberOf rows.elements.members (normal_form (integer_matrix G) w) (Some i) → IsBelow (integer_matrix G) y w
-    → IsRefused (RefusesBetween limits (integer_matrix G) y w) None × HoldsBetween (integer_matrix G) y w rows
-read_off-keeps limits G g y w i rows whole of read closed number below =
-    let top = number-contains rows.elements.members (normal_form (integer_matrix G) w) i number in
-    (all-allowed limits G g y w rows of closed top read.small, all-holds limits G g y w rows of closed top read.readable.there below)
+pub read_off-keeps : (limits : Limits) (G : CoxeterMatrix) → IsAdmissible (integer_matrix G) → (y w : List ℕ) (ends : Ends)
+    (rows : Holding) (whole : WholeGroup) → AreOf G limits rows → IsReadOff rows whole → IsClosed (integer_matrix G) rows.elements.members
+    → HoldsEnds (integer_matrix G) y w ends rows
+    → IsRefused (RefusesBetween limits (integer_matrix G) y w) None × HoldsBetween (integer_matrix G) y w ends rows
+read_off-keeps limits G g y w ends rows whole of read closed numbers = (
+  all-allowed limits G g y w ends rows of closed numbers read.small,
+  all-holds limits G g y w ends rows of closed numbers read.readable.there,
+)
 
 -- so that is held which was asked for
-pub all-keeps : (limits : Limits) (G : CoxeterMatrix) → IsAdmissible (integer_matrix G) → (y w : List ℕ) (kept : Option Holding)
-    → AreKept G limits kept → IsSomeAnd kept (λ rows. Contains rows.elements.members (normal_form (integer_matrix G) w))
+pub all-keeps : (limits : Limits) (G : CoxeterMatrix) → IsAdmissible (integer_matrix G) → (y w : List ℕ) (ends : Ends)
+    (kept : Option Holding) → AreKept G limits kept → IsSomeAnd kept (HoldsEnds (integer_matrix G) y w ends)
     → IfSome kept (λ rows. IsClosed (integer_matrix rows.elements.matrix) rows.elements.members)
     → IfSome kept (λ rows. (i : ℕ) → i < length rows.elements.members → HasRow rows i)
     → IfSome kept (λ rows. (i : ℕ) → i < length rows.elements.members
     → IsBeyond (integer_matrix rows.elements.matrix) rows.limit (word_at rows.elements.members i) → ⊥)
-    → IsBelow (integer_matrix G) y w
-    → Keeps {X = Unit {0}} (Ok tt) (RefusesBetween limits (integer_matrix G) y w) (λ _ rows. HoldsBetween (integer_matrix G) y w rows) kept
-all-keeps limits G g y w None of top closed there small below = absurd top
-all-keeps limits G g y w (Some rows) of top closed there small below =
+    → Keeps (Ok ends) (RefusesBetween limits (integer_matrix G) y w) (HoldsBetween (integer_matrix G) y w) kept
+all-keeps limits G g y w ends None of numbers closed there small = absurd numbers
+all-keeps limits G g y w ends (Some rows) of numbers closed there small =
     let inside : IsClosed (integer_matrix G) rows.elements.members = rw of.group at closed in
-    (all-allowed limits G g y w rows of inside top small, all-holds limits G g y w rows of inside top there below)
+    (all-allowed limits G g y w ends rows of inside numbers small, all-holds limits G g y w ends rows of inside numbers there)
 
 -- a whole group that is found is one that inverse polynomials are read off
 pub read_off-found : (rows : Holding) (found : Option WholeGroup) → ((i : ℕ) → i < length rows.elements.members
@@ -96,35 +95,28 @@ pub read_off-found : (rows : Holding) (found : Option WholeGroup) → ((i : ℕ)
 read_off-found rows None small none = tt
 read_off-found rows (Some whole) small readable = record { readable = readable; small = small }
 
--- rows that were taken out of a workspace with this group and these options: w has the number i among their members
-pub record AreTaken (G : CoxeterMatrix) (set : Options) (w : List ℕ) (i : ℕ) (rest : WorkspaceState) (rows : Holding) : Type 0 where
-  pub table : rest.table ≡ G
-  pub options : rest.options ≡ set
-  pub of : AreOf G (limits_of set) rows
-  pub number : IsNumberOf rows.elements.members (normal_form (integer_matrix G) w) (Some i)
-  pub few : HasMoreThan (limits_of set).context (IsInInterval (integer_matrix G) w) → ⊥
+-- rows that were taken out of a workspace with this group: y and w have these numbers among their members
+pub record AreTaken (G : CoxeterMatrix) (limits : Limits) (y w : List ℕ) (ends : Ends) (rows : Holding) : Type 0 where
+  pub of : AreOf G limits rows
+  pub numbers : HoldsEnds (integer_matrix G) y w ends rows
+  pub few : HasMoreThan limits.context (IsInInterval (integer_matrix G) w) → ⊥
 
--- they are such, after the interval from the identity to w was added to what is kept
-pub are-taken : (G : CoxeterMatrix) (set : Options) (rest new : WorkspaceState) (w : List ℕ) (i : ℕ) (rows : Holding)
-    (taken : Option Holding) → rest ≡ new → new.table ≡ G → new.options ≡ set → AreKept G (limits_of set) new.rows
-    → Keeps {X = ℕ} (Ok i) (RefusesLargeOr (limits_of set) (integer_matrix G) w ⊥) (HoldsElement (integer_matrix G) w) new.rows
-    → taken ≡ rest.rows → taken ≡ Some rows → AreTaken G set w i rest rows
-are-taken G set rest new w i rows taken is table options kept interval value some =
-    let here : new.rows ≡ Some rows = sym (ap (λ (work : WorkspaceState). work.rows) is) ∙ sym value ∙ some in
-    record {
-      table = ap (λ (work : WorkspaceState). work.table) is ∙ table;
-      options = ap (λ (work : WorkspaceState). work.options) is ∙ options;
-      of = rw here at kept;
-      number = rw here at interval.1;
-      few = large-free (limits_of set) (integer_matrix G) w interval.0;
-    }
+-- they are such, where y and w have these numbers in what was kept
+pub are-taken : (G : CoxeterMatrix) (limits : Limits) (y w : List ℕ) (ends : Ends) (kept : Option Holding) (rows : Holding)
+    → AreKept G limits kept
+    → Keeps (Ok ends) (RefusesLargeOr limits (integer_matrix G) w ⊥) (HoldsEnds (integer_matrix G) y w) kept
+    → kept ≡ Some rows → AreTaken G limits y w ends rows
+are-taken G limits y w ends kept rows of interval some = record {
+  of = rw some at of;
+  numbers = rw some at interval.1;
+  few = large-free limits (integer_matrix G) w interval.0;
+}
 
 -- the members between y and w, while their rows are made
 module _ (limits : Limits) (G : CoxeterMatrix) (g : IsAdmissible (integer_matrix G)) (y w : List ℕ) (old new : Holding)
-    (of : AreOf G limits old) (closed : IsClosed (integer_matrix G) old.elements.members) (below : IsBelow (integer_matrix G) y w)
-    (interval : Interval) (is : IsInterval old.elements interval)
-    (bottom : word_at old.elements.members interval.bottom ≡ normal_form (integer_matrix G) y)
-    (top : word_at old.elements.members interval.top ≡ normal_form (integer_matrix G) w) where
+    (of : AreOf G limits old) (closed : IsClosed (integer_matrix G) old.elements.members) (ends : Ends)
+    (numbers : HoldsEnds (integer_matrix G) y w ends old) (interval : Interval) (is : IsInterval old.elements interval)
+    (bottom : interval.bottom ≡ ends.low) (top : interval.top ≡ ends.high) where
   abbrev A : IntegerMatrix
   A = integer_matrix G
 
@@ -132,10 +124,10 @@ module _ (limits : Limits) (G : CoxeterMatrix) (g : IsAdmissible (integer_matrix
   members = old.elements.members
 
   bottom-same : SameElement A (word_at members interval.bottom) y
-  bottom-same = rw bottom (normal_form-same A g y)
+  bottom-same = rw (bottom, numbers.low.1) (normal_form-same A g y)
 
   top-same : SameElement A (word_at members interval.top) w
-  top-same = rw top (normal_form-same A g w)
+  top-same = rw (top, numbers.high.1) (normal_form-same A g w)
 
   -- each of them has a place among the numbers
   between-place : (z : ℕ) → z < length members → LiesBetween A y w (word_at members z)
@@ -154,13 +146,12 @@ module _ (limits : Limits) (G : CoxeterMatrix) (g : IsAdmissible (integer_matrix
   }
 
   contained : Contains members (normal_form A w)
-  contained = subst (Contains members) top (contains-at members interval.top is.top_member)
+  contained = number-contains members (normal_form A w) ends.high numbers.high
 
   pub between-holds : IsMore old new → ((k : ℕ) → k < length interval.members.items → HasRow new (number_at interval.members.items k))
-      → HoldsBetween (integer_matrix G) y w new
+      → HoldsBetween (integer_matrix G) y w ends new
   between-holds more there = record {
-    bottom = rw more.same.elements (below-contained A g members closed w contained y below);
-    top = rw more.same.elements contained;
+    numbers = record { low = rw more.same.elements numbers.low; high = rw more.same.elements numbers.high };
     held = λ z within between.
         let found = between-place z (rw more.same.elements at within) (rw more.same.elements at between) in
         rw found.2 at (there found.0 found.1);
@@ -193,8 +184,7 @@ module _ (limits : Limits) (G : CoxeterMatrix) (g : IsAdmissible (integer_matrix
   pub between-refused : (few : HasMoreThan limits.context (IsInInterval (integer_matrix G) w) → ⊥) (kept : Option Holding)
       (fault : StepFault)
       → IsFaultOfOne old.elements old.limit interval.members.items fault
-      → Keeps {X = Unit {0}} (Err (unanswered_by fault)) (RefusesBetween limits (integer_matrix G) y w)
-      (λ _ rows. HoldsBetween (integer_matrix G) y w rows) kept
+      → Keeps (Err (unanswered_by fault)) (RefusesBetween limits (integer_matrix G) y w) (HoldsBetween (integer_matrix G) y w) kept
   between-refused few kept (Coefficient x z degree value) is_fault =
       large_or-refused limits A w (IsSomeBeyond A limits.coefficient y w) few
       (fault-some (Coefficient x z degree value) (λ e. absurd (cc e)) is_fault)
@@ -209,8 +199,7 @@ module _ (limits : Limits) (G : CoxeterMatrix) (g : IsAdmissible (integer_matrix
       → OnOk made ((k : ℕ) → k < length interval.members.items
       → NeedsBeyond (integer_matrix old.elements.matrix) old.limit (word_at old.elements.members (number_at interval.members.items k)) → ⊥)
       → IfErr made (IsFaultOfOne old.elements old.limit interval.members.items)
-      → Keeps {X = Unit {0}} (unless_fault made tt) (RefusesBetween limits (integer_matrix G) y w)
-      (λ _ rows. HoldsBetween (integer_matrix G) y w rows) (Some new)
+      → Keeps (unless_fault made ends) (RefusesBetween limits (integer_matrix G) y w) (HoldsBetween (integer_matrix G) y w) (Some new)
   between-keeps few (Ok done) more there small fault =
       (large_or-allowed limits A w (IsSomeBeyond A limits.coefficient y w) few (between-small small), between-holds more there)
   between-keeps few (Err why) more there small fault = between-refused few (Some new) why fault

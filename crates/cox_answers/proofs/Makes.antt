@@ -44,6 +44,12 @@ module _ {X : Type 0} (Old New : Refusal → Type 0) (more : (why : Refusal) →
   PutsUnless-unmade Was IsText before (Refused why) makes = (more why makes, refl)
   PutsUnless-unmade Was IsText before NoMemory makes = inl refl
 
+-- what is not kept is not kept either where other words say what is held
+pub Keeps-unkept : {X Y : Type 0} (Refuses : Refusal → Type 0) (Was : X → Holding → Type 0) (Holds : Y → Holding → Type 0)
+    (kept : Option Holding) (why : Unanswered) → Keeps (Err why) Refuses Was kept → Keeps (Err why) Refuses Holds kept
+Keeps-unkept Refuses Was Holds kept (Refused why) keeps = keeps
+Keeps-unkept Refuses Was Holds kept NoMemory keeps = tt
+
 -- each command on the whole group is refused as its rows are
 pub group-refuses : (kind : NoWord) (limits : Limits) (A : IntegerMatrix) → (group_question kind limits A).Refuses ≡ RefusesGroupRows limits A
 group-refuses Lwgraph limits A = refl

@@ -1,7 +1,6 @@
 -- Rows of the elements between two, and of whole groups, as they are kept for inverse polynomials.
-use Rattle.std.specs.Prelude.{ℕ, ◌<◌, List, length, Contains, Option, IfSome, IsSomeAnd, ℤ, pos}
+use Rattle.std.specs.Prelude.{ℕ, ◌<◌, List, length, Option, IfSome, IsSomeAnd, ℤ, pos}
 use Rattle.cox_base.specs.IntegerMatrix.{IntegerMatrix, integer_matrix}
-use Rattle.cox_base.specs.ShortLex.{normal_form}
 use Rattle.cox_hecke.specs.ListedElements.{LiesBetween}
 use Rattle.cox_hecke.specs.Needs.{IsNeeded}
 use Rattle.cox_context.specs.Closed.{Elements}
@@ -17,6 +16,8 @@ use Rattle.cox_command.specs.declared.refusal.Refusal.{Refusal}
 use Rattle.cox_replies.specs.Limits.{Limits}
 use Rattle.cox_replies.specs.Listed.{RefusesLargeOr}
 use Rattle.cox_replies.specs.InverseReply.{inverse_limit}
+use Rattle.cox_answers.specs.Kept.{HoldsElement}
+use Rattle.cox_answers.specs.declared.needs.Ends.{Ends}
 
 -- the row of some element between y and w needs a row that is beyond its limits
 abbrev pub IsSomeBeyond : IntegerMatrix → ℕ → List ℕ → List ℕ → Type 0
@@ -26,10 +27,14 @@ IsSomeBeyond A limit y w = (z : List ℕ) × LiesBetween A y w z × NeedsBeyond 
 abbrev pub RefusesBetween : Limits → IntegerMatrix → List ℕ → List ℕ → Refusal → Type 0
 RefusesBetween limits A y w = RefusesLargeOr limits A w (IsSomeBeyond A limits.coefficient y w)
 
--- the elements of y and w are members, and the row of each member between them is held
-pub record HoldsBetween (A : IntegerMatrix) (y w : List ℕ) (rows : Holding) : Type 0 where
-  pub bottom : Contains rows.elements.members (normal_form A y)
-  pub top : Contains rows.elements.members (normal_form A w)
+-- the elements of y and w are members, with these numbers
+pub record HoldsEnds (A : IntegerMatrix) (y w : List ℕ) (ends : Ends) (rows : Holding) : Type 0 where
+  pub low : HoldsElement A y ends.low rows
+  pub high : HoldsElement A w ends.high rows
+
+-- they are, and the row of each member between them is held
+pub record HoldsBetween (A : IntegerMatrix) (y w : List ℕ) (ends : Ends) (rows : Holding) : Type 0 where
+  pub numbers : HoldsEnds A y w ends rows
   pub held : (z : ℕ) → z < length rows.elements.members → LiesBetween A y w (word_at rows.elements.members z) → HasRow rows z
 
 -- what a fault of the rows of these members says: it is one of the rows that one of them needs

@@ -68,13 +68,14 @@ abbrev pub HasRowOf : WorkspaceState → List ℕ → Found → Type 0
 HasRowOf work w (found.Row i) = IsRowOf work w i
 HasRowOf work w _ = ⊥
 
--- there is no element between y and w, or the rows of all of them are kept; and nothing refuses them
+-- there is no element between y and w, or the rows of all of them are kept, and y and w have these numbers; and nothing refuses them
 abbrev pub HasBetween : WorkspaceState → List ℕ → List ℕ → Found → Type 0
 HasBetween work y w found.Apart = (IsBelow (integer_matrix work.table) y w → ⊥)
     × IsRefused (RefusesLargeOr (limits_of work.options) (integer_matrix work.table) w ⊥) None
-HasBetween work y w _ = IsBelow (integer_matrix work.table) y w
-    × IsSomeAnd work.rows (HoldsBetween (integer_matrix work.table) y w)
+HasBetween work y w (found.Between ends) = IsBelow (integer_matrix work.table) y w
+    × IsSomeAnd work.rows (HoldsBetween (integer_matrix work.table) y w ends)
     × IsRefused (RefusesBetween (limits_of work.options) (integer_matrix work.table) y w) None
+HasBetween work y w _ = ⊥
 
 -- the rows of all elements of the group are kept, and nothing refuses them
 abbrev pub HasGroup : WorkspaceState → Type 0

@@ -36,6 +36,15 @@ pub enum Need<'a> {
     },
 }
 
+/// The numbers of two elements y <= w among the members.
+#[derive(Clone, Copy, Drop)]
+pub struct Ends {
+    /// That of y.
+    pub low: u32,
+    /// That of w.
+    pub high: u32,
+}
+
 /// What was found of it.
 #[derive(Drop)]
 pub enum Found {
@@ -43,6 +52,8 @@ pub enum Found {
     There,
     /// The row of w, which has this number.
     Row(u32),
+    /// The rows between y and w, which have these numbers.
+    Between(Ends),
     /// y <= w fails, so nothing lies between them.
     Apart,
     /// What the rows of the generated words sum up to.

@@ -1,17 +1,18 @@
 //! What commands on elements work with.
 
 use crate::answers::ahead::{is_on_interval, with_asked};
-use crate::answers::between::{ensure_each, interval_between, is_large, with_rows};
+use crate::answers::between::{ensure_each, is_large, with_rows};
 use crate::answers::kept::{add_interval, keep_interval, widen, with_row};
 use crate::answers::kept_group::{holds_group, keep_elements, with_all};
 use crate::faults::unless_fault;
 use crate::finite::{longest_of_few, longest_word};
 use crate::kept_rows::KeptRows;
+use crate::needs::Ends;
 use crate::row_maker::RowMaker;
 use crate::whole_group_policy::WholeGroupPolicy;
 use cox_base::{Coxeter, MAX_RANK, Word};
 use cox_command::Inquiry;
-use cox_inverse::WholeGroup;
+use cox_inverse::{Interval, WholeGroup};
 use cox_minroots::RootTable;
 use cox_options::Options;
 use cox_replies::Unanswered;
@@ -45,11 +46,10 @@ impl Model for Workspace {
 }
 
 impl Workspace {
-    ghost use Rattle.std.specs.Prelude.{◌≡◌, ℕ, ◌<◌, ◌≤◌, List, IsSome, IsSomeAnd, IfSome, IfOk, IsTrue, None, Some, Contains, length, All};
+    ghost use Rattle.std.specs.Prelude.{◌≡◌, ℕ, ◌<◌, ◌≤◌, List, IsSome, IsSomeAnd, IfSome, IfOk, IsTrue, None, Some, length, All};
     ghost use Rattle.cox_base.specs.Admissible.{IsCoxeterMatrix};
     ghost use Rattle.cox_base.specs.IntegerMatrix.{integer_matrix};
     ghost use Rattle.cox_base.specs.Matrix.{IsWord};
-    ghost use Rattle.cox_base.specs.ShortLex.{normal_form};
     ghost use Rattle.cox_base.specs.Bruhat.{IsBelow};
     ghost use Rattle.cox_base.specs.Members.{IsInInterval};
     ghost use Rattle.cox_base.specs.SortedList.{HasMoreThan};
@@ -60,7 +60,7 @@ impl Workspace {
     ghost use Rattle.cox_replies.specs.Question.{IsRefused};
     ghost use Rattle.cox_replies.specs.RowReply.{RefusesRow};
     ghost use Rattle.cox_answers.specs.Kept.{AreOf, AreKept, HoldsElement, HoldsRow, HoldsAll, IsSameWorkspace, Keeps};
-    ghost use Rattle.cox_answers.specs.KeptBetween.{RefusesBetween, HoldsBetween, IsReadOff};
+    ghost use Rattle.cox_answers.specs.KeptBetween.{RefusesBetween, HoldsEnds, HoldsBetween, IsReadOff};
 
     /// A group with the options of the session; no row is made yet.
     pub fn new(table: RootTable, options: Options) -> Workspace
@@ -208,6 +208,19 @@ impl Workspace {
         }
     }
 
+    /// The numbers of y and w, where y <= w, and w is the member with the number high. Then y is a member too.
+    pub(crate) fn ends_of(&self, y: &Word, w: &Word, high: u32) -> Ends
+        requires first { IsWord self.now.table.rank y.now.items }
+        requires below { IsBelow (integer_matrix self.now.table) y.now.items w.now.items }
+        requires high { IsSomeAnd self.now.rows (HoldsElement (integer_matrix self.now.table) w.now.items high) }
+        ensures { IsSomeAnd self.now.rows (HoldsEnds (integer_matrix self.now.table) y.now.items w.now.items result) }
+    {
+        match self.rows().context().number_of(self.table(), y) {
+            Some(low) => Ends { low, high },
+            None => unreachable!(),
+        }
+    }
+
     /// The number of the element of w, if its row is kept, and it is known that no row that it needs is beyond a limit.
     pub(crate) fn settled_number(&self, w: &Word) -> Option<u32>
         requires { IsWord self.now.table.rank w.now.items }
@@ -242,79 +255,72 @@ impl Workspace {
         }
     }
 
-    /// Sees to it that the rows of all z with y <= z <= w are kept, where y <= w.
+    /// Sees to it that the rows of all z with y <= z <= w are kept, where y <= w. Their numbers are told again.
     pub(crate) fn keep_between<M: RowMaker>(
         &mut self,
         maker: &M,
         alloc: Global,
         y: &Word,
         w: &Word,
-    ) -> Result<(), Unanswered>
+        ends: Ends,
+    ) -> Result<Ends, Unanswered>
         requires first { IsWord self.old.table.rank y.now.items }
         requires second { IsWord self.old.table.rank w.now.items }
         requires below { IsBelow (integer_matrix self.old.table) y.now.items w.now.items }
-        requires top { IsSomeAnd self.old.rows
-            (λ rows. Contains rows.elements.members (normal_form (integer_matrix self.old.table) w.now.items)) }
+        requires ends { IsSomeAnd self.old.rows (HoldsEnds (integer_matrix self.old.table) y.now.items w.now.items ends) }
         requires ready { M.ready maker.now }
         ensures same { IsSameWorkspace self.old self.new }
         ensures kept { AreKept self.old.table (limits_of self.old.options) self.new.rows }
         ensures rows { Keeps result (RefusesBetween (limits_of self.old.options) (integer_matrix self.old.table) y.now.items w.now.items)
-            (λ _ rows. HoldsBetween (integer_matrix self.old.table) y.now.items w.now.items rows) self.new.rows }
+            (HoldsBetween (integer_matrix self.old.table) y.now.items w.now.items) self.new.rows }
         ensures group { IsCoxeterMatrix self.old.table }
     {
         prove!(self.rank() as usize <= MAX_RANK);
         if self.kept.find_whole_group() {
-            return Ok(());
+            return Ok(ends);
         }
-        self.gather(maker, alloc, y, w)?;
+        let ends = self.gather(maker, alloc, y, w, ends)?;
         let kept = self.kept.change();
         let Some(rows) = kept.take() else {
             unreachable!();
         };
-        let between = interval_between(alloc, rows.context(), &self.table, y, w)?;
+        let between = Interval::between(alloc, rows.context(), ends.low, ends.high)?;
         let mut rows = with_rows(alloc, rows, maker, between.members.as_slice());
         let made = ensure_each(&mut rows, between.members.as_slice());
         *kept = Some(rows);
         self.kept.find_whole_group();
-        unless_fault(made, ())
+        unless_fault(made, ends)
     }
 
-    /// Sees to it that the interval from the identity to w is part of what is kept, and tells the number of w there.
-    ///
-    /// Where there are many members between y and w, and the group is finite, the rows of the whole group are made. Where these are
-    /// refused, it is as if they had not been asked for.
+    /// Makes the rows of the whole group, where there are many members between y and w, and it is finite. Where these are refused, it is as
+    /// if they had not been asked for. The numbers of y and w are told again.
     fn gather<M: RowMaker>(
         &mut self,
         maker: &M,
         alloc: Global,
         y: &Word,
         w: &Word,
-    ) -> Result<u32, Unanswered>
+        ends: Ends,
+    ) -> Result<Ends, Unanswered>
         requires first { IsWord self.old.table.rank y.now.items }
         requires second { IsWord self.old.table.rank w.now.items }
+        requires below { IsBelow (integer_matrix self.old.table) y.now.items w.now.items }
+        requires ends { IsSomeAnd self.old.rows (HoldsEnds (integer_matrix self.old.table) y.now.items w.now.items ends) }
         requires ready { M.ready maker.now }
         ensures same { IsSameWorkspace self.old self.new }
         ensures kept { AreKept self.old.table (limits_of self.old.options) self.new.rows }
         ensures interval { Keeps result (RefusesLargeOr (limits_of self.old.options) (integer_matrix self.old.table) w.now.items ⊥)
-            (HoldsElement (integer_matrix self.old.table) w.now.items) self.new.rows }
+            (HoldsEnds (integer_matrix self.old.table) y.now.items w.now.items) self.new.rows }
         ensures group { IsCoxeterMatrix self.old.table }
     {
         prove!(self.rank() as usize <= MAX_RANK);
-        if self.is_large(y, w) && longest_word(&self.table).is_some() {
-            let _ = self.keep_group(maker, alloc);
+        if !is_large(self.rows().context(), ends) || longest_word(&self.table).is_none() {
+            return Ok(ends);
         }
-        self.keep_interval(alloc, w)
-    }
-
-    /// Whether there are many members between y and w.
-    fn is_large(&self, y: &Word, w: &Word) -> bool
-        requires first { IsWord self.now.table.rank y.now.items }
-        requires second { IsWord self.now.table.rank w.now.items }
-    {
-        match self.kept.rows() {
-            Some(rows) => is_large(rows, &self.table, y, w),
-            None => false,
-        }
+        let _ = self.keep_group(maker, alloc);
+        // The whole group is a list of its own, in ShortLex order. So y and w may have other numbers now, and are looked up again.
+        let high = self.keep_interval(alloc, w)?;
+        Ok(self.ends_of(y, w, high))
     }
 
     /// Takes the whole group, where what is kept has a good part of it. No answer depends on it: members and rows that are kept stay.

@@ -45,13 +45,12 @@ impl Workspace {
     {
         prove!(self.rank() as usize <= MAX_RANK);
         let _whole = self.whole_group()?;
-        let _number = self.number_of(w)?;
-        let _context = self.rows().context();
-        if self.table().below(y, w) {
-            Some(Found::There)
-        } else {
-            Some(Found::Apart)
+        let high = self.number_of(w)?;
+        if !self.table().below(y, w) {
+            return Some(Found::Apart);
         }
+        let _context = self.rows().context();
+        Some(Found::Between(self.ends_of(y, w, high)))
     }
 
     /// Makes what a command needs, unless it is there, or refused.
@@ -118,11 +117,12 @@ impl Workspace {
         ensures same { IsSameWorkspace self.old self.new }
         ensures group { IsCoxeterMatrix self.old.table }
     {
-        self.keep_interval(alloc, w)?;
+        let high = self.keep_interval(alloc, w)?;
         if !self.table().below(y, w) {
             return Ok(Found::Apart);
         }
-        self.keep_between(maker, alloc, y, w)?;
-        Ok(Found::There)
+        let ends = self.ends_of(y, w, high);
+        let kept = self.keep_between(maker, alloc, y, w, ends)?;
+        Ok(Found::Between(kept))
     }
 }

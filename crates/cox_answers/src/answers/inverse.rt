@@ -1,6 +1,5 @@
 //! The answers on inverse Kazhdan-Lusztig polynomials.
 ghost use Rattle.std.specs.Prelude.{None, IfSome};
-ghost use Rattle.cox_base.specs.Matrix.{IsWord};
 ghost use Rattle.cox_base.specs.IntegerMatrix.{integer_matrix};
 ghost use Rattle.cox_base.specs.Bruhat.{IsBelow};
 ghost use Rattle.cox_answers.specs.Kept.{AreOf};
@@ -11,13 +10,12 @@ ghost use Rattle.cox_replies.specs.Putting.{PutsUnless};
 ghost use Rattle.cox_replies.specs.Question.{IsRefused};
 ghost use Rattle.cox_answers.specs.Needs.{HasBetween};
 
-use crate::answers::between::{inverse_limit, member};
+use crate::answers::between::inverse_limit;
 use crate::faults::inverse_unanswered;
-use crate::needs::Found;
+use crate::needs::{Ends, Found};
 use crate::workspace::Workspace;
 use cox_base::{MAX_RANK, Word};
 use cox_inverse::{WholeGroup, inverse_row};
-use cox_minroots::RootTable;
 use cox_options::Options;
 use cox_poly::append::put_text;
 use cox_replies::{Unanswered, unrefused};
@@ -32,52 +30,49 @@ impl Workspace {
         w: &Word,
         found: &Found,
     ) -> Result<(), Unanswered>
-        requires first { IsWord self.now.table.rank y.now.items }
-        requires second { IsWord self.now.table.rank w.now.items }
-        requires found { HasBetween self.now y.now.items w.now.items found.now }
+        requires { HasBetween self.now y.now.items w.now.items found.now }
         ensures { PutsUnless result (RefusesInverse (limits_of self.now.options) (integer_matrix self.now.table) y.now.items w.now.items)
             (IsInverseText (integer_matrix self.now.table) y.now.items w.now.items) out.old.items out.new.items }
     {
         prove!(self.rank() as usize <= MAX_RANK);
-        if let Found::Apart = found {
-            return unrefused(put_text(out, b"0"));
+        match found {
+            Found::Between(ends) => {
+                let whole = self.whole_group();
+                put_inverse(out, self.rows(), self.options(), whole, y, w, *ends)
+            }
+            Found::Apart => unrefused(put_text(out, b"0")),
+            _ => unreachable!(),
         }
-        let whole = self.whole_group();
-        put_inverse(out, self.rows(), self.table(), self.options(), whole, y, w)
     }
 }
 
-/// Puts Q(y,w), where y <= w and the rows of all members between them are held. It is read off a row where the rows of a whole group are
-/// there.
+/// Puts Q(y,w), where y <= w, these are their numbers, and the rows of all members between them are held. It is read off a row where the
+/// rows of a whole group are there.
 fn put_inverse(
     out: &mut Vec<u8>,
     rows: &Rows,
-    table: &RootTable,
     options: Options,
     whole: Option<WholeGroup>,
     y: &Word,
     w: &Word,
+    ends: Ends,
 ) -> Result<(), Unanswered>
-    requires rows { AreOf table.now (limits_of options) rows.now }
-    requires first { IsWord table.now.rank y.now.items }
-    requires second { IsWord table.now.rank w.now.items }
-    requires below { IsBelow (integer_matrix table.now) y.now.items w.now.items }
-    requires held { HoldsBetween (integer_matrix table.now) y.now.items w.now.items rows.now }
-    requires free { IsRefused (RefusesBetween (limits_of options) (integer_matrix table.now) y.now.items w.now.items) None }
+    requires rows { AreOf rows.now.elements.matrix (limits_of options) rows.now }
+    requires below { IsBelow (integer_matrix rows.now.elements.matrix) y.now.items w.now.items }
+    requires held { HoldsBetween (integer_matrix rows.now.elements.matrix) y.now.items w.now.items ends rows.now }
+    requires free { IsRefused (RefusesBetween (limits_of options) (integer_matrix rows.now.elements.matrix) y.now.items w.now.items) None }
     requires whole { IfSome whole (IsReadOff rows.now) }
-    ensures { PutsUnless result (RefusesInverse (limits_of options) (integer_matrix table.now) y.now.items w.now.items)
-        (IsInverseText (integer_matrix table.now) y.now.items w.now.items) out.old.items out.new.items }
+    ensures { PutsUnless result (RefusesInverse (limits_of options) (integer_matrix rows.now.elements.matrix) y.now.items w.now.items)
+        (IsInverseText (integer_matrix rows.now.elements.matrix) y.now.items w.now.items) out.old.items out.new.items }
 {
     let context = rows.context();
-    let low = member(context, table, y);
-    let high = member(context, table, w);
     let limit = inverse_limit(options.coef());
     if let Some(group) = whole {
-        let polynomial = group.polynomial(context, rows, low, high, limit);
+        let polynomial = group.polynomial(context, rows, ends.low, ends.high, limit);
         return unrefused(polynomial.put_text(out));
     }
-    match inverse_row(*out.allocator(), context, low, high, rows, limit) {
-        Ok(row) => unrefused(row.polynomial(low).put_text(out)),
+    match inverse_row(*out.allocator(), context, ends.low, ends.high, rows, limit) {
+        Ok(row) => unrefused(row.polynomial(ends.low).put_text(out)),
         Err(fault) => Err(inverse_unanswered(fault)),
     }
 }
