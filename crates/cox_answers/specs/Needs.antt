@@ -26,7 +26,7 @@ use Rattle.cox_answers.specs.KeptBetween.{RefusesBetween, HoldsBetween}
 use Rattle.cox_replies.specs.Totals.{AreTotals}
 use Rattle.cox_replies.specs.Putting.{PutsUnless}
 use Rattle.cox_answers.specs.declared.needs.Need.{Need}
-use Rattle.cox_answers.specs.declared.needs.Need.TheVariants.{Nothing, Row, Listed, Between, Group, Words}
+use Rattle.cox_answers.specs.declared.needs.Need.TheVariants.{Nothing, Row, Certified, Between, Group, Words}
 use Rattle.cox_answers.specs.declared.needs.Found.{Found}
 use Rattle.cox_answers.specs.declared.needs.Found.TheVariants as found
 
@@ -45,7 +45,7 @@ Makes (Err unanswered.NoMemory) Refuses Is = Unit {0}
 abbrev pub IsOver : ℕ → Need → Type 0
 IsOver rank Nothing = Unit {0}
 IsOver rank (Row w) = IsWord rank w.now.items
-IsOver rank (Listed w) = IsWord rank w.now.items
+IsOver rank (Certified w) = IsWord rank w.now.items
 IsOver rank (Between y w) = IsWord rank y.now.items × IsWord rank w.now.items
 IsOver rank Group = Unit {0}
 IsOver rank (Words start count) = AreWorkNumbers start count
@@ -54,7 +54,7 @@ IsOver rank (Words start count) = AreWorkNumbers start count
 abbrev pub need_refuses : Need → Limits → CoxeterMatrix → Refusal → Type 0
 need_refuses Nothing limits g = λ why. ⊥
 need_refuses (Row w) limits g = RefusesRow limits (integer_matrix g) w.now.items
-need_refuses (Listed w) limits g = RefusesCert limits (integer_matrix g) w.now.items
+need_refuses (Certified w) limits g = RefusesCert limits (integer_matrix g) w.now.items
 need_refuses (Between y w) limits g = RefusesInverse limits (integer_matrix g) y.now.items w.now.items
 need_refuses Group limits g = RefusesGroupRows limits (integer_matrix g)
 need_refuses (Words start count) limits g = RefusesWork limits (integer_matrix g) (generated_words g.rank count start)
@@ -92,7 +92,7 @@ HasTotals work words _ = ⊥
 abbrev pub IsFound : WorkspaceState → Need → Found → Type 0
 IsFound work Nothing found = Unit {0}
 IsFound work (Row w) found = HasRowOf work w.now.items found
-IsFound work (Listed w) found = HasRowOf work w.now.items found
+IsFound work (Certified w) found = HasRowOf work w.now.items found
 IsFound work (Between y w) found = HasBetween work y.now.items w.now.items found
 IsFound work Group found = HasGroup work
 IsFound work (Words start count) found = HasTotals work (generated_words work.table.rank count start) found

@@ -1,4 +1,4 @@
-//! The lines that commands on elements answer: what a command needs is found, or made, and the answer is put from it.
+//! The lines that commands on elements, or on the whole group, answer: what a command needs is found, or made, and the answer is put from it.
 //!
 //! - `finding`: what a command needs, found or made
 //! - `ahead`: rows that are made before they are asked for
@@ -45,7 +45,8 @@ use cox_replies::{
 };
 
 impl Workspace {
-    /// Puts the text that answers a command on elements, with the end of its last line. A refusal puts nothing.
+    /// Puts the text that answers a command on elements, or on the whole group, with the end of its last line. A refusal puts nothing; where
+    /// memory runs out a prefix of the text may stand there.
     pub fn put_answer<M: RowMaker>(
         &mut self,
         maker: &M,

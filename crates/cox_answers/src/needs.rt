@@ -21,8 +21,8 @@ pub enum Need<'a> {
     Nothing,
     /// That of w.
     Row(&'a Word),
-    /// That of w, where a certificate is not refused without it.
-    Listed(&'a Word),
+    /// That of w for its certificate: it is not asked for where there are more x <= w than a check takes, or w is too long for one.
+    Certified(&'a Word),
     /// Those of all z with y <= z <= w.
     Between(&'a Word, &'a Word),
     /// Those of all elements of the group.
@@ -52,7 +52,7 @@ pub enum Found {
     There,
     /// The row of w, which has this number.
     Row(u32),
-    /// The rows between y and w, which have these numbers.
+    /// The rows between y and w, whose numbers these are.
     Between(Ends),
     /// y <= w fails, so nothing lies between them.
     Apart,
@@ -76,7 +76,7 @@ pub fn need_of(inquiry: &Inquiry) -> Need<'_>
             | OneWord::Coatoms
             | OneWord::Betti => Need::Nothing,
             OneWord::OfRow(_) => Need::Row(w),
-            OneWord::Cert => Need::Listed(w),
+            OneWord::Cert => Need::Certified(w),
             OneWord::Module => Need::Group,
         },
         Inquiry::Two(kind, y, w) => match kind {
@@ -98,7 +98,7 @@ impl<'a> Need<'a> {
         ensures { (rank : ℕ) → IsOver rank self.now → IfSome result (λ w. IsWord rank w.now.items) }
     {
         match *self {
-            Need::Row(w) | Need::Listed(w) => Some(w),
+            Need::Row(w) | Need::Certified(w) => Some(w),
             Need::Nothing | Need::Between(..) | Need::Group | Need::Words { .. } => None,
         }
     }

@@ -255,7 +255,8 @@ impl Workspace {
         }
     }
 
-    /// Sees to it that the rows of all z with y <= z <= w are kept, where y <= w. Their numbers are told again.
+    /// Sees to it that the rows of all z with y <= z <= w are kept, where y <= w, and these are their numbers. It
+    /// tells what numbers they have then.
     pub(crate) fn keep_between<M: RowMaker>(
         &mut self,
         maker: &M,

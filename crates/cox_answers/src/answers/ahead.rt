@@ -134,7 +134,7 @@ fn asked_member(alloc: Global, rows: &Rows, table: &RootTable, inquiry: &Inquiry
     let need = need_of(inquiry);
     let w = need.row()?;
     let i = rows.context().number_of(table, w)?;
-    if let Need::Listed(_) = need
+    if let Need::Certified(_) = need
         && listed_below(alloc, rows, i).is_err()
     {
         return None;

@@ -21,7 +21,7 @@ use std::alloc::Global;
 /// polynomial is read off one row.
 const LARGE: usize = 2_048;
 
-/// Whether there are many members between two.
+/// Whether there are many members between the two with these numbers.
 pub fn is_large(context: &Context, ends: Ends) -> bool
     requires low { ends.low < length context.now.members }
     requires high { ends.high < length context.now.members }

@@ -25,7 +25,7 @@ impl Workspace {
         match *need {
             Need::Nothing => Some(Found::There),
             Need::Row(w) => Some(Found::Row(self.settled_number(w)?)),
-            Need::Listed(w) => Some(Found::Row(self.settled_number(w)?)),
+            Need::Certified(w) => Some(Found::Row(self.settled_number(w)?)),
             Need::Between(y, w) => self.find_between(y, w),
             Need::Group => {
                 if !self.has_group() {
@@ -68,7 +68,7 @@ impl Workspace {
         match *need {
             Need::Nothing => Ok(Found::There),
             Need::Row(w) => Ok(Found::Row(self.keep_row(maker, alloc, w)?)),
-            Need::Listed(w) => Ok(Found::Row(self.make_listed(maker, alloc, w)?)),
+            Need::Certified(w) => Ok(Found::Row(self.make_certified(maker, alloc, w)?)),
             Need::Between(y, w) => self.make_between(maker, alloc, y, w),
             Need::Group => {
                 self.keep_group(maker, alloc)?;
@@ -80,8 +80,8 @@ impl Workspace {
         }
     }
 
-    /// The same for the row of w, unless a certificate of it is refused without it. Its number is told.
-    fn make_listed<M: RowMaker>(
+    /// The same for the row of w for its certificate, which may be refused without the row. The number of w is told.
+    fn make_certified<M: RowMaker>(
         &mut self,
         maker: &M,
         alloc: Global,

@@ -22,15 +22,15 @@ returns-in_ok-keep_row-in-Row-clause-made g c =
     let told = c.in_ok-keep_row-in-Row.ensures {u = tt} in
     rw (c.in-Row.is, told.same.table, told.same.options) (told.row.1, told.row.0)
 
-pub returns-in_err-make_listed-in-Listed-clause-made : goal.returns-in_err-make_listed-in-Listed-clause-made
-returns-in_err-make_listed-in-Listed-clause-made g c =
+pub returns-in_err-make_certified-in-Certified-clause-made : goal.returns-in_err-make_certified-in-Certified-clause-made
+returns-in_err-make_certified-in-Certified-clause-made g c =
     let A = integer_matrix c.args.self.now.table in
     let limits = limits_of c.args.self.now.options in
-    let w = c.in-Listed.w.now.items in
-    let from = c.from_residual-in_err-make_listed-in-Listed in
+    let w = c.in-Certified.w.now.items in
+    let from = c.from_residual-in_err-make_certified-in-Certified in
     let p = err_from_is_err_and from.result from.ensures.1 in
-    rw (p.1, p.2, c.in-Listed.is) (Makes-unmade (RefusesCert limits A w) (RefusesCert limits A w) (λ why refused. refused) _ _
-    c.in_err-make_listed-in-Listed.field-0.0 (rw (c.in_err-make_listed-in-Listed.was {u = tt}) at c.make_listed.ensures.made))
+    rw (p.1, p.2, c.in-Certified.is) (Makes-unmade (RefusesCert limits A w) (RefusesCert limits A w) (λ why refused. refused) _ _
+    c.in_err-make_certified-in-Certified.field-0.0 (rw (c.in_err-make_certified-in-Certified.was {u = tt}) at c.make_certified.ensures.made))
 
 pub returns-in-Between-clause-made : goal.returns-in-Between-clause-made
 returns-in-Between-clause-made g c = rw c.in-Between.is c.make_between.ensures.made

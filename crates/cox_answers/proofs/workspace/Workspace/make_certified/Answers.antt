@@ -1,4 +1,4 @@
--- The proof of `make_listed`.
+-- The proof of `make_certified`.
 use Rattle.cox_base.specs.IntegerMatrix.{integer_matrix}
 use Rattle.cox_replies.specs.SessionLimits.{limits_of}
 use Rattle.cox_replies.specs.RowReply.{RefusesRow}
@@ -7,7 +7,7 @@ use Rattle.cox_answers.specs.Kept.{AreOf, HoldsElement, HoldsRow}
 use Rattle.cox_replies.proofs.LargeOr.{large-free}
 use Rattle.cox_replies.proofs.CertRefusals.{cert-listing, cert-row}
 use Rattle.cox_answers.proofs.Makes.{Makes-kept, Makes-unfound}
-use Rattle.cox_answers.proofs.workspace.Workspace.make_listed.Goals as goal
+use Rattle.cox_answers.proofs.workspace.Workspace.make_certified.Goals as goal
 
 pub returns-in-Err-clause-made : goal.returns-in-Err-clause-made
 returns-in-Err-clause-made g c =
