@@ -1,13 +1,16 @@
 //! Large answers, which no lack of memory cuts off, with values from outside; and lines and inputs at their limits.
-use crate::runs::end_of;
+use crate::runs::{assert_end, end_of};
 use cox_doubles::Trial;
 use cox_outside::Open;
 use cox_shell::Status;
+use std::alloc::{AllocError, Global};
+use std::sync::Wait;
 use std::test::Fail;
+use std::thread::Threads;
 
-/// Scripts, and how what is written begins: numbers of cells from the literature, and numbers of elements. A 6 has 5,040 elements, of which
-/// 232 are involutions or the identity; 7 has 15 partitions; and E 6, which has 51,840 elements, has 17 families of representations.
-const BEGINNINGS: &[(&str, &str)] = &[
+/// Scripts, and how what is written begins: numbers of cells from the literature. A 6 has 5,040 elements, of which 232 are involutions or
+/// the identity; 7 has 15 partitions; and E 6, which has 51,840 elements, has 17 families of representations.
+const CELLS: &[(&str, &str)] = &[
     ("type A 3\nlcells\n", "10\n"),
     ("type A 3\nlrcells\n", "5\n"),
     ("type B 3\nlcells\n", "14\n"),
@@ -19,61 +22,61 @@ const BEGINNINGS: &[(&str, &str)] = &[
     ("type A 6\nlcells\n", "232\n"),
     ("type A 6\nlrcells\n", "15\n"),
     ("type E 6\nlrcells\n", "17\n"),
+];
+
+/// In the infinite dihedral group 510 elements are below a word of 255 letters: all shorter ones, and itself. B 7 has 645,120 elements, and
+/// half of 49 is their mean length. A line for each has its letters, or `e`, and the end: 16,450,568 bytes, with that of the number.
+const LISTS: &[(&str, &str, usize)] = &[
     (
-        "matrix 2 0\nklbasis 121212121212121212121212121212121212121212121\n",
-        "90\ne:1\n1:1\n2:1\n12:1\n",
+        concat!(
+            "matrix 2 0\nklbasis 1",
+            "2121212121212121212121212121212121212121212121212121212121212121212121212121212121212121212121",
+            "2121212121212121212121212121212121212121212121212121212121212121212121212121212121212121212121",
+            "212121212121212121212121212121212121212121212121212121212121212121\n",
+        ),
+        "510\ne:1\n1:1\n2:1\n12:1\n",
+        66_560,
+    ),
+    (
+        "type B 7\ninterval e 1234567654321234567654323456765434567654567656767\n",
+        "645120\ne\n1\n",
+        16_450_568,
     ),
 ];
 
-#[test]
-fn large_answers(rt: HostRuntime) -> Result<(), Fail> {
-    for (script, beginning) in BEGINNINGS {
-        let trial = Trial {
-            room: 4_000_000,
-            ..Trial::plain(&[b"coxeter"], script.as_bytes())
-        };
-        let (status, sink) = end_of(&rt, rt.alloc(), trial, &Open)?;
-        assert_eq!(rt; status, Status::Done, "at {script:?}");
-        assert!(rt;
-            sink.bytes().starts_with(beginning.as_bytes()),
-            "at {script:?}"
-        );
-    }
-    Ok(())
-}
-
-/// B 7 has 645,120 elements, and half of 49 is their mean length. A line for each has its letters, or `e`, and the end.
-#[test]
-fn an_answer_of_16_megabytes(rt: HostRuntime) -> Result<(), Fail> {
-    let script = b"type B 7\ninterval e 1234567654321234567654323456765434567654567656767\n";
+/// How many bytes a run over a script writes, if they begin so, and it ends well.
+fn size_of<R: Threads + Wait + Sync>(
+    rt: &R,
+    alloc: Global,
+    script: &str,
+    beginning: &str,
+) -> Result<Option<usize>, AllocError> {
     let trial = Trial {
         write: usize::MAX,
         room: 17_000_000,
-        ..Trial::plain(&[b"coxeter"], script)
+        ..Trial::plain(&[b"coxeter"], script.as_bytes())
     };
-    let (status, sink) = end_of(&rt, rt.alloc(), trial, &Open)?;
-    assert_eq!(rt; status, Status::Done);
-    assert!(rt; sink.bytes().starts_with(b"645120\ne\n1\n"));
-    assert_eq!(rt; sink.bytes().len(), 16_450_568);
+    let (status, sink) = end_of(rt, alloc, trial, &Open)?;
+    let bytes = sink.bytes();
+    let is_so = status == Status::Done && bytes.starts_with(beginning.as_bytes());
+    Ok(if is_so { Some(bytes.len()) } else { None })
+}
+
+#[test]
+fn cells(rt: HostRuntime) -> Result<(), Fail> {
+    for (script, beginning) in CELLS {
+        let size = size_of(&rt, rt.alloc(), script, beginning)?;
+        assert!(rt; size.is_some(), "at {script:?}");
+    }
     Ok(())
 }
 
-/// In the infinite dihedral group 510 elements are below a word of 255 letters: all shorter ones, and itself.
 #[test]
-fn intervals_of_the_longest_word(rt: HostRuntime) -> Result<(), Fail> {
-    let mut script = b"matrix 2 0".to_vec(rt.alloc())?;
-    for command in ["\nklbasis 1", "\ncoatoms 1"] {
-        script.extend_from_slice(command.as_bytes())?;
-        for _ in 0..127 {
-            script.extend_from_slice(b"21")?;
-        }
+fn lists(rt: HostRuntime) -> Result<(), Fail> {
+    for (script, beginning, wanted) in LISTS {
+        let size = size_of(&rt, rt.alloc(), script, beginning)?;
+        assert!(rt; size == Some(*wanted), "at {script:?}");
     }
-    let room: &[&[u8]] = &[b"coxeter", b"--context=510"];
-    let (_, sink) = end_of(&rt, rt.alloc(), Trial::plain(room, &script), &Open)?;
-    assert!(rt; sink.bytes().starts_with(b"510\ne:1\n1:1\n2:1\n12:1\n"));
-    let less: &[&[u8]] = &[b"coxeter", b"--context=509"];
-    let (_, sink) = end_of(&rt, rt.alloc(), Trial::plain(less, &script), &Open)?;
-    assert_eq!(rt; sink.bytes(), b"error 31\nerror 31\n".as_slice());
     Ok(())
 }
 
@@ -108,9 +111,7 @@ fn limits_of_bytes(rt: HostRuntime) -> Result<(), Fail> {
         script.resize(*size, *byte)?;
         script.extend_from_slice(last)?;
         let trial = Trial::plain(&[b"coxeter"], &script);
-        let (ended, sink) = end_of(&rt, rt.alloc(), trial, &Open)?;
-        assert_eq!(rt; ended, *status, "at {size} bytes {byte}");
-        assert_eq!(rt; sink.bytes(), *written, "at {size} bytes {byte}");
+        assert_end(&rt, rt.alloc(), trial, *status, written)?;
     }
     Ok(())
 }

@@ -1,9 +1,9 @@
 //! Whole runs from the arguments of an environment: with options, with faults, and with inputs that end in each way.
 
 use crate::NAME;
-use crate::runs::end_of;
+use crate::runs::assert_end;
 use cox_doubles::{CommandLine, MemorySink, MemorySource, Trial};
-use cox_outside::{Got, Open, Source, arguments_of};
+use cox_outside::{Got, Source, arguments_of};
 use cox_shell::{Status, run_one};
 use std::test::Fail;
 
@@ -253,13 +253,7 @@ const FAULTS: &[Faulty] = &[
 fn starts(rt: HostRuntime) -> Result<(), Fail> {
     for (arguments, script, written, status) in STARTS {
         let trial = Trial::plain(arguments, script.as_bytes());
-        let (ended, sink) = end_of(&rt, rt.alloc(), trial, &Open)?;
-        assert_eq!(rt; ended, *status, "at {arguments:?} {script:?}");
-        assert_eq!(rt;
-            sink.bytes(),
-            written.as_bytes(),
-            "at {arguments:?} {script:?}"
-        );
+        assert_end(&rt, rt.alloc(), trial, *status, written.as_bytes())?;
     }
     Ok(())
 }
@@ -274,27 +268,25 @@ fn faults(rt: HostRuntime) -> Result<(), Fail> {
             failing_writes: writes,
             ..Trial::plain(arguments, script.as_bytes())
         };
-        let (ended, sink) = end_of(&rt, rt.alloc(), trial, &Open)?;
-        assert_eq!(rt; ended, *status, "at {arguments:?} {reads:?} {writes:?}");
-        assert_eq!(rt;
-            sink.bytes(),
-            written.as_bytes(),
-            "at {arguments:?} {reads:?} {writes:?}"
-        );
+        assert_end(&rt, rt.alloc(), trial, *status, written.as_bytes())?;
     }
     Ok(())
+}
+
+/// Whether these are the texts, all of them and in order.
+fn are_texts(found: &[String], wanted: &[&str]) -> bool {
+    found.len() == wanted.len()
+        && found
+            .iter()
+            .zip(wanted)
+            .all(|(text, want)| text.as_str() == *want)
 }
 
 #[test]
 fn arguments(rt: HostRuntime) -> Result<(), Fail> {
     let named = CommandLine(&[b"./\xff", b"--context", b"\xc3\xa4"]);
-    let arguments = arguments_of(&named, rt.alloc(), NAME)?.expect(&rt, "these are texts");
-    assert_eq!(rt; arguments.len(), 3);
-    assert_eq!(rt; arguments[0].as_str(), "coxeter");
-    assert_eq!(rt; arguments[1].as_str(), "--context");
-    assert_eq!(rt; arguments[2].as_str(), "\u{e4}");
-    let broken = CommandLine(&[b"coxeter", b"--context", b"\xff"]);
-    assert!(rt; arguments_of(&broken, rt.alloc(), NAME)?.is_none());
+    let found = arguments_of(&named, rt.alloc(), NAME)?.ok_or("these are texts")?;
+    assert!(rt; are_texts(&found, &[NAME, "--context", "\u{e4}"]));
     Ok(())
 }
 
@@ -304,9 +296,8 @@ fn reads_nothing_after_quit(rt: HostRuntime) -> Result<(), Fail> {
     let mut source = MemorySource::new(script, 1, Vec::new(rt.alloc()));
     let mut sink = MemorySink::new(rt.alloc(), 9, 9, Vec::new(rt.alloc()))?;
     let status = run_one(rt.alloc(), &["coxeter"], &mut source, &mut sink);
-    assert_eq!(rt; status, Status::Done);
     let mut next = [0u8; 9];
-    assert_eq!(rt; source.read(&mut next), Got::Bytes(1));
-    assert_eq!(rt; next[0], b'f');
+    let got = source.read(&mut next);
+    assert!(rt; (status, got, next[0]) == (Status::Done, Got::Bytes(1), b'f'));
     Ok(())
 }

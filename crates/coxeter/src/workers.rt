@@ -1,9 +1,10 @@
 //! Whole runs with several workers: they write the same bytes, they work at once, and they make no row twice.
-use crate::runs::end_of;
+use crate::runs::{assert_end, end_of};
 use cox_doubles::{Census, MemorySink, Trial};
 use cox_outside::{Gate, Open};
 use cox_shell::{Session, Status};
 use std::alloc::{AllocError, Global};
+use std::process::Abort;
 use std::sync::Wait;
 use std::test::Fail;
 use std::thread::Threads;
@@ -41,18 +42,26 @@ const NUMBERS: &[&[u8]] = &[
 
 #[test]
 fn write_the_same(rt: HostRuntime) -> Result<(), Fail> {
-    let alloc = rt.alloc();
     for script in SCRIPTS {
         let trial = Trial::plain(&[b"coxeter"], script.as_bytes());
-        let (status, sink) = end_of(&rt, alloc, trial, &Open)?;
-        for workers in NUMBERS {
-            let (ended, other) = run_by(&rt, alloc, script, workers, &Open)?;
-            assert_eq!(rt; ended, status, "{workers:?} workers at {script:?}");
-            assert!(rt;
-                other.bytes() == sink.bytes(),
-                "{workers:?} workers at {script:?}"
-            );
-        }
+        let (status, sink) = end_of(&rt, rt.alloc(), trial, &Open)?;
+        writes_so(&rt, rt.alloc(), script, status, sink.bytes())?;
+    }
+    Ok(())
+}
+
+/// Asserts how a run ends and what it writes, by each number of workers.
+fn writes_so<R: Abort + Threads + Wait + Sync>(
+    rt: &R,
+    alloc: Global,
+    script: &str,
+    status: Status,
+    written: &[u8],
+) -> Result<(), Fail> {
+    for workers in NUMBERS {
+        let arguments: [&[u8]; 3] = [b"coxeter", b"--workers", workers];
+        let trial = Trial::plain(&arguments, script.as_bytes());
+        assert_end(rt, alloc, trial, status, written)?;
     }
     Ok(())
 }
@@ -64,19 +73,48 @@ const LIST: &str = concat!(
     "next\nmodule e\nnext\nmodule e\nnext\nmodule e\nnext\nlrcells\nend\nlrcells\n",
 );
 
+/// What a gate has counted: workers that claimed rows, blocks that were begun, and holds that ended before others came; rows that were
+/// published once and more often; and rows that somebody came to claim.
+#[derive(Clone, Copy, Debug, PartialEq, Eq)]
+struct Counts {
+    seen: (u64, u64, u64),
+    published: (usize, usize),
+    claimed: usize,
+}
+
+/// What a gate counts in a run by so many workers, where so many are awaited, for so many rows; `None` where the run does not write what one
+/// worker writes.
+fn counts_of<R: Threads + Wait + Sync>(
+    rt: &R,
+    alloc: Global,
+    script: &str,
+    workers: &[u8],
+    awaited: u64,
+    rows: usize,
+) -> Result<Option<Counts>, AllocError> {
+    let (status, one) = run_by(rt, alloc, script, b"1", &Open)?;
+    let gate = Census::new(alloc, awaited, rows)?;
+    let (ended, sink) = run_by(rt, alloc, script, workers, &gate)?;
+    let counts = Counts {
+        seen: gate.seen(),
+        published: gate.published(),
+        claimed: gate.claimed(),
+    };
+    let is_same = ended == status && sink.bytes() == one.bytes();
+    Ok(if is_same { Some(counts) } else { None })
+}
+
 /// As many workers as are asked for make all 1,920 rows before the first block begins, each once, and answer as many blocks at once.
 #[test]
 fn work_at_once(rt: HostRuntime) -> Result<(), Fail> {
-    let alloc = rt.alloc();
-    let (_, one) = run_by(&rt, alloc, LIST, b"1", &Open)?;
     for (awaited, workers) in [(2u64, b"2"), (4, b"4")] {
-        let gate = Census::new(alloc, awaited, 1920)?;
-        let (status, sink) = run_by(&rt, alloc, LIST, workers, &gate)?;
-        assert_eq!(rt; status, Status::Done);
-        assert_eq!(rt; gate.seen(), (awaited, 16, 0), "{awaited} workers");
-        assert_eq!(rt; gate.published(), (1920, 0), "{awaited} workers");
-        assert_eq!(rt; gate.claimed(), 1920, "{awaited} workers");
-        assert!(rt; sink.bytes() == one.bytes(), "{awaited} workers");
+        let wanted = Counts {
+            seen: (awaited, 16, 0),
+            published: (1920, 0),
+            claimed: 1920,
+        };
+        let counts = counts_of(&rt, rt.alloc(), LIST, workers, awaited, 1920)?;
+        assert_eq!(rt; counts, Some(wanted), "{awaited} workers");
     }
     Ok(())
 }
@@ -84,53 +122,56 @@ fn work_at_once(rt: HostRuntime) -> Result<(), Fail> {
 /// The second line asks for rows that the first one made, of an element of E 6 with 35 letters: none is made again.
 #[test]
 fn keep_rows(rt: HostRuntime) -> Result<(), Fail> {
-    let alloc = rt.alloc();
-    let gate = Census::new(alloc, 1, 51_840)?;
     let script = concat!(
         "type E 6\npol e 12314231435423143542654231435426543\n",
         "pol 1 12314231435423143542654231435426543\n",
     );
-    let (status, _) = run_by(&rt, alloc, script, b"2", &gate)?;
-    assert_eq!(rt; status, Status::Done);
-    let (once, again) = gate.published();
-    assert!(rt; once > 0);
-    assert_eq!(rt; again, 0);
+    let counts = counts_of(&rt, rt.alloc(), script, b"2", 1, 51_840)?;
+    let (once, again) = counts.map_or((0, 0), |counts| counts.published);
+    assert!(rt; once > 0 && again == 0);
     Ok(())
 }
 
 /// Few rows, which cost little, are made by one thread, and a list of short lines is answered by one: no other is started for them.
 #[test]
 fn few_rows_pass_no_gate(rt: HostRuntime) -> Result<(), Fail> {
-    let alloc = rt.alloc();
-    let gate = Census::new(alloc, 1, 120)?;
     let script = "type A 4\nklbasis 12321\nlrcells\njobs\npol 2 2132\nnext\nmu 2 2132\nend\n";
-    let (status, _) = run_by(&rt, alloc, script, b"2", &gate)?;
-    assert_eq!(rt; status, Status::Done);
-    assert_eq!(rt; gate.seen(), (0, 0, 0));
-    assert_eq!(rt; gate.published(), (0, 0));
+    let none = Counts {
+        seen: (0, 0, 0),
+        published: (0, 0),
+        claimed: 0,
+    };
+    assert_eq!(rt;
+        counts_of(&rt, rt.alloc(), script, b"2", 1, 120)?,
+        Some(none)
+    );
     Ok(())
 }
 
 /// The calls of a session that `run` does not make.
 #[test]
 fn answer_by_calls(rt: HostRuntime) -> Result<(), Fail> {
-    let alloc = rt.alloc();
-    let options = cox_options::read(alloc, &["coxeter", "--workers", "3"])?;
+    let options = cox_options::read(rt.alloc(), &["coxeter", "--workers", "3"])?;
     let mut session = Session::new(options);
-    let mut out = Vec::new(alloc);
-    session.answer_with(&rt, b"type A 3", &mut out, &Open)?;
-    session.answer_with(&rt, b"pol 2 2132", &mut out, &Open)?;
-    session.answer(b"mu 2 2132", &mut out)?;
-    session.answer_with(&rt, b"jobs", &mut out, &Open)?;
-    session.answer_with(&rt, b"pol 2 2132", &mut out, &Open)?;
-    session.answer_with(&rt, b"next", &mut out, &Open)?;
-    session.bad(18, &mut out)?;
-    let blocks = session.blocks().expect(&rt, "a list is open");
-    session.answer_jobs(&rt, blocks, &mut out, &Open)?;
-    session.answer_jobs_one(blocks, &mut out)?;
-    assert_eq!(rt;
-        out.as_slice(),
-        b"1+q\n1\n1+q\nerror 18\n1+q\nerror 18\n".as_slice()
-    );
+    let mut out = Vec::new(rt.alloc());
+    answer_lines(&rt, &mut session, &mut out)?;
+    assert!(rt; out.as_slice() == b"1+q\n1\n1+q\nerror 18\n1+q\nerror 18\n".as_slice());
+    Ok(())
+}
+
+/// Answers two lines, and then a list with a line that is too long: by workers, and by one thread.
+fn answer_lines<R: Threads + Wait + Sync>(
+    rt: &R,
+    session: &mut Session,
+    out: &mut Vec<u8>,
+) -> Result<(), Fail> {
+    session.answer(b"type A 3", out)?;
+    for line in ["pol 2 2132", "mu 2 2132", "jobs", "pol 2 2132", "next"] {
+        session.answer_with(rt, line.as_bytes(), out, &Open)?;
+    }
+    session.bad(18, out)?;
+    let blocks = session.blocks().ok_or("no list is open")?;
+    session.answer_jobs(rt, blocks, out, &Open)?;
+    session.answer_jobs_one(blocks, out)?;
     Ok(())
 }

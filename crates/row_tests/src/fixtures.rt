@@ -1,10 +1,11 @@
-//! Groups with all their elements, and members by their words.
-ghost use Rattle.std.specs.Prelude.{◌≡◌, ◌<◌, ◌≤◌, length, IfOk, IfSome};
+//! Groups with all their elements, and the rows of these.
+ghost use Rattle.std.specs.Prelude.{◌≡◌, length, IfOk};
 ghost use Rattle.cox_base.specs.Matrix.{IsWord};
 
 use cox_base::{Coxeter, MAX_LETTERS, Word, read_word};
 use cox_context::{Context, MAX_MEMBERS};
 use cox_minroots::{MAX_SMALL_ROOTS, RootTable};
+use cox_rows::Rows;
 use std::alloc::Global;
 use std::process::Abort;
 use std::test::Fail;
@@ -24,13 +25,20 @@ pub fn elements(
     n: u32,
     order: u32,
 ) -> Result<Context, Fail>
-    requires some { 1 ≤ order }
-    requires few { order ≤ MAX_MEMBERS }
     ensures { IfOk result (λ context. length context.members ≡ order) }
 {
-    let context = Context::of_group(alloc, &table(alloc, &Coxeter::named(letter, n)?)?, order)?;
-    assert!(rt; context.len() == order);
+    assert!(rt; 1 <= order && order <= MAX_MEMBERS);
+    let table = table(alloc, &Coxeter::named(letter, n)?)?;
+    let context = Context::of_group(alloc, &table, order)?;
+    assert!(rt; context.len() == order, "{letter} {n}");
     Ok(context)
+}
+
+/// A context without rows.
+pub fn rows_of(alloc: Global, context: Context) -> Result<Rows, Fail>
+    ensures { IfOk result (λ rows. rows.elements ≡ context) }
+{
+    Ok(Rows::new(alloc, context, i64::MAX)?)
 }
 
 /// The word that a text names.
@@ -39,16 +47,4 @@ pub fn word(rt: &impl Abort, g: &RootTable, text: &[u8]) -> Result<Word, Fail>
 {
     assert!(rt; text.len() <= MAX_LETTERS);
     Ok(read_word(text, g.group().rank())?)
-}
-
-/// The number of the member with this normal form, if there is one: by the words of all members, one after another.
-pub fn place_of(context: &Context, form: &Word) -> Option<u32>
-    ensures { IfSome result (λ j. j < length context.now.members) }
-{
-    for j in 0..context.len() {
-        if context.word(j).as_slice() == form.as_slice() {
-            return Some(j);
-        }
-    }
-    None
 }

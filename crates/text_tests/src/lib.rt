@@ -1,26 +1,20 @@
-//! Tests of what is read and written: lines and their tokens, commands, options, texts of answers and of faults, sources and sinks.
+//! Tests of what is read and written: checks of certificates, the words of `work`, options, texts of faults, and sources and sinks over streams.
 //! There is no code here, only tests. They stand apart from the crates that they test, since a crate with tests is proved twice.
 //!
-//! - `tokens`: the tokens of `cox_tokens`, and numbers among them
-//! - `commands`: the lines of `cox_command`
+//! - `certificates`: whole checks of `cox_cert`
+//! - `commands`: the words that `work` of `cox_command` generates
 //! - `options`: the options of `cox_options`
-//! - `texts`: the texts of `cox_print`
-//! - `lines`: the lines of `cox_outside`, and the sources and sinks in memory of `cox_doubles`
-//! - `streams`: the sources and sinks of `cox_outside` over streams that count calls
+//! - `streams`: the sources and sinks of `cox_outside` over streams
 //! - `faults`: the texts of faults
 #![tactic(auto)]
 
+#[cfg(test)]
+mod certificates;
 #[cfg(test)]
 mod commands;
 #[cfg(test)]
 mod faults;
 #[cfg(test)]
-mod lines;
-#[cfg(test)]
 mod options;
 #[cfg(test)]
 mod streams;
-#[cfg(test)]
-mod texts;
-#[cfg(test)]
-mod tokens;

@@ -1,9 +1,9 @@
-//! Sources and sinks over streams that count calls: each read and each write asks the stream once, and fails exactly where it does.
+//! Sources and sinks over streams. Each read and each write asks the stream once, and fails exactly where it does: streams count the calls.
 ghost use Rattle.std.specs.Prelude.{◌≤◌};
 
 use cox_outside::{
     CHUNK_SIZE, Got, INPUT_LIMIT, LINE_LIMIT, LineReader, Next, Sink, Source, StdSink, StdSource,
-    Took,
+    Took, write_all,
 };
 use std::io;
 use std::io::{Read, Write};
@@ -143,5 +143,22 @@ fn limits(rt: HostRuntime) -> Result<(), Fail> {
     assert_eq!(rt; reader.next(&mut source), Next::Line(b"aaaaa"));
     assert_eq!(rt; calls.made.load(SeqCst), 2);
     assert_eq!(rt; calls.size.load(SeqCst), 4096);
+    Ok(())
+}
+
+#[test]
+fn hands_on_what_streams_give_and_take(rt: HostRuntime) -> Result<(), Fail> {
+    let text: &[u8] = b"abc";
+    let mut source = StdSource::new(text);
+    let mut buffer = [0u8; 2];
+    assert_eq!(rt; source.read(&mut buffer), Got::Bytes(2));
+    assert_eq!(rt; buffer, *b"ab");
+    assert_eq!(rt; source.read(&mut buffer), Got::Bytes(1));
+    assert_eq!(rt; source.read(&mut buffer), Got::End);
+
+    let mut room = [0u8; 4];
+    let mut sink = StdSink::new(room.as_mut_slice());
+    assert_eq!(rt; write_all(&mut sink, b"abcd"), Ok(()));
+    assert_eq!(rt; sink.write(b"e"), Took::Failed);
     Ok(())
 }

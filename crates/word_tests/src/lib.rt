@@ -1,23 +1,20 @@
-//! Tests of matrices, words, polynomials, R-polynomials and small roots. There is no code here, only tests.
+//! Tests of matrices, their symmetries, the text of polynomials, small roots and directed graphs. There is no code here, only tests.
 //! They stand apart from the crates that they test, since a crate with tests is proved twice.
 //!
-//! - `fixtures`: what several tests begin with
-//! - `matrices`: the matrices and words of `cox_base`
-//! - `polynomials`: the polynomials of `cox_poly`, their text, also read by `cox_polyread`, and accumulators
-//! - `reflections`: words of `cox_reflect`
-//! - `r_polynomials`: R of `cox_rpoly`
+//! - `graphs`: the classes of `cox_scc`
+//! - `matrices`: the matrices of `cox_base`
+//! - `polynomials`: the text of the polynomials of `cox_poly`, also read by `cox_polyread`
 //! - `small_roots`: the tables of `cox_minroots`
+//! - `symmetries`: the symmetries of `cox_symmetry`
 #![tactic(auto)]
 
 #[cfg(test)]
-mod fixtures;
+mod graphs;
 #[cfg(test)]
 mod matrices;
 #[cfg(test)]
 mod polynomials;
 #[cfg(test)]
-mod r_polynomials;
-#[cfg(test)]
-mod reflections;
-#[cfg(test)]
 mod small_roots;
+#[cfg(test)]
+mod symmetries;

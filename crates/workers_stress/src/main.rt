@@ -90,32 +90,61 @@ fn count_all(rows: &[Option<Row>]) -> Counts {
     sum
 }
 
-fn main(rt: HostRuntime) -> anyhow::Result<()> {
-    let alloc = rt.alloc();
-    let group = Coxeter::named(b'A', 4)?;
-    let table = RootTable::build(alloc, &group, MAX_SMALL_ROOTS)?;
-    let context = Context::of_group(alloc, &table, 120)?;
+/// Prints what all rows come to, and those of the last member, by each number of workers.
+fn print_counts<R: Print + Threads + Wait + Sync>(
+    rt: &R,
+    alloc: Global,
+    context: &Context,
+) -> anyhow::Result<()> {
     for workers in [1, 2, 4, 16] {
-        let sum = count_all(all_rows(&rt, alloc, &context, workers, &Open)?.as_slice());
-        println!(rt;
-            "{} rows, {} polynomials, {} values of mu",
-            sum.rows, sum.polynomials, sum.mus
-        )?;
+        let sum = count_all(all_rows(rt, alloc, context, workers, &Open)?.as_slice());
+        print_sum(rt, "", sum)?;
     }
     for workers in [1, 2, 4, 16] {
-        let sum = count_all(last_row(&rt, alloc, &context, workers, &Open)?.as_slice());
-        println!(rt;
-            "of the last one {} rows, {} polynomials, {} values of mu",
-            sum.rows, sum.polynomials, sum.mus
-        )?;
-    }
-    for awaited in [1, 2] {
-        let gate = Census::new(alloc, awaited, context.len() as usize)?;
-        let sum = count_all(all_rows(&rt, alloc, &context, 2, &gate)?.as_slice());
-        println!(rt; "{} rows, {} came to be claimed", sum.rows, gate.claimed())?;
-        let (once, _) = gate.published();
-        let (_, _, late) = gate.seen();
-        println!(rt; "{once} published once, {late} late")?;
+        let sum = count_all(last_row(rt, alloc, context, workers, &Open)?.as_slice());
+        print_sum(rt, "of the last one ", sum)?;
     }
     Ok(())
+}
+
+/// Prints what rows come to.
+fn print_sum(rt: &impl Print, of: &str, sum: Counts) -> anyhow::Result<()> {
+    println!(rt;
+        "{of}{} rows, {} polynomials, {} values of mu",
+        sum.rows, sum.polynomials, sum.mus
+    )?;
+    Ok(())
+}
+
+/// Prints what a gate counts that two workers pass, where so many are awaited.
+fn print_passes<R: Print + Threads + Wait + Sync>(
+    rt: &R,
+    alloc: Global,
+    context: &Context,
+    awaited: u64,
+) -> anyhow::Result<()> {
+    let gate = Census::new(alloc, awaited, context.len() as usize)?;
+    let rows = count_all(all_rows(rt, alloc, context, 2, &gate)?.as_slice()).rows;
+    print_gate(rt, rows, &gate)
+}
+
+/// Prints how many rows there are, and what a gate has counted.
+fn print_gate(rt: &impl Print, rows: usize, gate: &Census) -> anyhow::Result<()> {
+    let ((once, _), (_, _, late)) = (gate.published(), gate.seen());
+    println!(rt; "{rows} rows, {} came to be claimed", gate.claimed())?;
+    println!(rt; "{once} published once, {late} late")?;
+    Ok(())
+}
+
+/// All elements of A 4.
+fn elements(alloc: Global) -> anyhow::Result<Context> {
+    let table = RootTable::build(alloc, &Coxeter::named(b'A', 4)?, MAX_SMALL_ROOTS)?;
+    Ok(Context::of_group(alloc, &table, 120)?)
+}
+
+fn main(rt: HostRuntime) -> anyhow::Result<()> {
+    let context = elements(rt.alloc())?;
+    print_counts(&rt, rt.alloc(), &context)?;
+    print_passes(&rt, rt.alloc(), &context, 1)?;
+    print_passes(&rt, rt.alloc(), &context, 2)
 }
