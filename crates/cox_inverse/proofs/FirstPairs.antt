@@ -26,7 +26,7 @@ use Rattle.cox_context.proofs.Shifting.{element-at, later-not_below}
 use Rattle.cox_row.specs.Rising.{number_at, AreRising}
 use Rattle.cox_row.specs.declared.row.Row.{Row}
 use Rattle.cox_row.specs.declared.row.Values.{Values}
-use Rattle.cox_row.specs.declared.row.View.{View}
+use Rattle.cox_row.specs.declared.row.SharedPolynomials.{SharedPolynomials}
 use Rattle.cox_row.specs.Views.{IsViewOf, ServesFor}
 use Rattle.cox_row.specs.RowOf.{AreValuesOf, IsRowAt, pool_of}
 use Rattle.cox_row.specs.Polynomials.{polynomial_at}
@@ -59,7 +59,7 @@ module _ (A : IntegerMatrix) (g : IsAdmissible A) (members : List (List ℕ)) (c
     (inside : i < length members)
     (limit : ℤ) (least : pos 0 ≤ℤ limit) where
   -- P(x,w) is P(g(x),g(w)), and g(w) is the element whose polynomials are kept
-  view-small : (view : View) → IsViewOf A members (word_at members i) view
+  view-small : (view : SharedPolynomials) → IsViewOf A members (word_at members i) view
       → ((y : List ℕ) → IsWithinLimit A limit y (word_at members view.member))
       → (x : List ℕ) → IsWithinLimit A limit x (word_at members i)
   view-small view is small x k c h =
@@ -82,7 +82,7 @@ module _ (A : IntegerMatrix) (g : IsAdmissible A) (members : List (List ℕ)) (c
     own-small m l are = none-large A g members closed m l limit least values.extremal.items values.places values.pool are.extremal
         are.polynomials small
 
-    values-small : (view : Option View) (v : List ℕ) → ServesFor A members (word_at members i) view v → AreValuesOf A members v values
+    values-small : (view : Option SharedPolynomials) (v : List ℕ) → ServesFor A members (word_at members i) view v → AreValuesOf A members v values
         → (x : List ℕ) → IsWithinLimit A limit x (word_at members i)
     values-small None v e are = own-small i inside (rw e at are)
     values-small (Some view) v (is, e) are = view-small view is (own-small view.member is.within (rw e at are))

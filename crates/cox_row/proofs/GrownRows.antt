@@ -10,7 +10,7 @@ use Rattle.cox_context.specs.Numbers.{word_at}
 use Rattle.cox_context.specs.Spread.{AreKept}
 use Rattle.cox_context.proofs.PlacedWords.{contains-placed, contains-at}
 use Rattle.cox_row.specs.declared.row.Row.{Row}
-use Rattle.cox_row.specs.declared.row.View.{View}
+use Rattle.cox_row.specs.declared.row.SharedPolynomials.{SharedPolynomials}
 use Rattle.cox_row.specs.Rising.{number_at, AreWithin}
 use Rattle.cox_row.specs.ExtremalNumbers.{AreExtremal}
 use Rattle.cox_row.specs.Polynomials.{HavePolynomials}
@@ -19,7 +19,8 @@ use Rattle.cox_row.specs.Views.{AreImages, AreImagesBy, IsViewOf, ServesFor}
 use Rattle.cox_row.specs.RowOf.{IsRowOf}
 use Rattle.cox_row.proofs.ImageLists.{image-within}
 
-module _ (A : IntegerMatrix) (g : IsAdmissible A) (old new : List (List ℕ)) (from : IsClosed A old) (to : IsClosed A new) (are : AreKept old new)
+module _ (A : IntegerMatrix) (g : IsAdmissible A) (old new : List (List ℕ)) (from : IsClosed A old) (to : IsClosed A new)
+    (are : AreKept old new)
   where
     more : (numbers : List ℕ) → AreWithin (length old) numbers → AreWithin (length new) numbers
     more numbers within k l = omega (arith, within k l, are.size)
@@ -28,7 +29,8 @@ module _ (A : IntegerMatrix) (g : IsAdmissible A) (old new : List (List ℕ)) (f
       -- a member below w was one before
       was_member : (i : ℕ) → i < length new → IsBelow A (word_at new i) w → i < length old
       was_member i l b =
-          let p = contains-placed old (word_at new i) (from.down (word_at new i) w member (to.element (word_at new i) (contains-at new i l)) b)
+          let x : List ℕ = word_at new i
+          in let p = contains-placed old x (from.down x w member (to.element x (contains-at new i l)) b)
           in let same : p.i ≡ i = to.distinct p.i i (omega (arith, p.within, are.size)) l (are.word p.i p.within ∙ p.is)
           in omega (arith, p.within, same)
 
@@ -82,7 +84,7 @@ module _ (A : IntegerMatrix) (g : IsAdmissible A) (old new : List (List ℕ)) (f
       images_by-grown p inverted None h = h
       images_by-grown p inverted (Some images) h = images-grown p inverted images h
 
-      view-grown : (view : View) → IsViewOf A old w view → IsViewOf A new w view
+      view-grown : (view : SharedPolynomials) → IsViewOf A old w view → IsViewOf A new w view
       view-grown view h = record {
         p = h.p;
         inverted = h.inverted;
@@ -92,11 +94,11 @@ module _ (A : IntegerMatrix) (g : IsAdmissible A) (old new : List (List ℕ)) (f
         images = images_by-grown h.p h.inverted view.images h.images;
       }
 
-      serves-grown : (view : Option View) (v : List ℕ) → ServesFor A old w view v → ServesFor A new w view v
+      serves-grown : (view : Option SharedPolynomials) (v : List ℕ) → ServesFor A old w view v → ServesFor A new w view v
       serves-grown None v h = h
       serves-grown (Some view) v (h, e) = (view-grown view h, e ∙ sym (are.word view.member h.within))
 
-      serving-member : (view : Option View) (v : List ℕ) → ServesFor A old w view v → Contains old v
+      serving-member : (view : Option SharedPolynomials) (v : List ℕ) → ServesFor A old w view v → Contains old v
       serving-member None v e = rw e member
       serving-member (Some view) v (h, e) = rw e (contains-at old view.member h.within)
 

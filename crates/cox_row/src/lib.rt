@@ -39,5 +39,5 @@ pub use lower_rows::LowerRows;
 pub use member_map::MemberMap;
 pub use places::Places;
 pub use raised::{is_subset, raise_fully};
-pub use row::{MU_LIMIT, Row, Values, View};
+pub use row::{MU_LIMIT, Row, SharedPolynomials, Values};
 pub use row_index::RowIndex;

@@ -22,7 +22,7 @@ use Rattle.cox_row.specs.Mus.{AreMus}
 use Rattle.cox_row_builder.specs.LargeMembers.{IsWithinLimit}
 use Rattle.cox_row_builder.specs.Faults.{IsFirstLarge}
 use Rattle.cox_row_builder.specs.Underway.{AreBegun, AreNoted}
-use Rattle.cox_row_builder.proofs.Middles.{middle-even, noted-skip}
+use Rattle.cox_row_builder.proofs.NotedMus.{middle-even, noted-skip}
 use Rattle.cox_row_builder.proofs.FoundPolynomials.{begun-keep}
 use Rattle.cox_row_builder.proofs.LargeCoefficients.{within-none}
 use Rattle.cox_row_builder.proofs.Finished.{finished-extremal, finished-mus, none-large}

@@ -47,7 +47,8 @@ module _ (A : IntegerMatrix) (g : IsAdmissible A) (limit : ℤ) (x w : List ℕ)
   module _ (sums : List ℤ) (is : IsKazhdanLusztig A x w (coefficient sums)) where
     small_not_large : (k : ℕ) (c : ℤ) → IsWithin limit (coefficient sums k) → IsLargeCoefficient A limit x w k c → ⊥
     small_not_large k c l h =
-        within-not_above limit (coefficient sums k) c (kazhdan_lusztig-unique A g x w (coefficient sums) h.polynomial is h.is k ∙ h.value) l h.above
+        within-not_above limit (coefficient sums k) c
+        (kazhdan_lusztig-unique A g x w (coefficient sums) h.polynomial is h.is k ∙ h.value) l h.above
 
     pub within-none : AllWithin limit sums → IsWithinLimit A limit x w
     within-none l k c h = small_not_large k c (l k) h

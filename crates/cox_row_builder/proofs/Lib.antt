@@ -1,5 +1,5 @@
 -- numbers that are picked from a list
-pub mod Picked
+pub mod PickedNumbers
 -- lists of candidates
 pub mod ListsOfCandidates
 -- extremal members, picked from the candidates
@@ -11,7 +11,7 @@ pub mod PoolPrints
 -- polynomials as they are found
 pub mod FoundPolynomials
 -- values of mu as they are found
-pub mod Middles
+pub mod NotedMus
 -- coefficients above the limit
 pub mod LargeCoefficients
 -- members with a coefficient above the limit

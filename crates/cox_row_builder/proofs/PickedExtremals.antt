@@ -12,7 +12,7 @@ use Rattle.cox_row_builder.specs.declared.target.Target.{Target}
 use Rattle.cox_row_builder.specs.Candidates.{AreExtremalUpTo}
 use Rattle.cox_row_builder.specs.TargetOf.{IsTarget}
 use Rattle.cox_row_builder.specs.Candidates.{AreCandidates}
-use Rattle.cox_row_builder.proofs.Picked.{ArePicked}
+use Rattle.cox_row_builder.proofs.PickedNumbers.{ArePicked}
 
 module _ (e : Elements) (g : IsAdmissible (integer_matrix e.matrix)) (target : Target) (is : IsTarget e target) (numbers : List ℕ)
     (are : AreCandidates e (target.member + 1) target.left numbers) where

@@ -155,7 +155,7 @@ impl RowBuilder {
             places,
             pool,
         } = values;
-        Ok(Row::whole(alloc, extremal, places, pool.into_list(), mus.numbers, mu)?)
+        Ok(Row::own(alloc, extremal, places, pool.into_list(), mus.numbers, mu)?)
     }
 
     /// How many members are done, all those before the one with this number.

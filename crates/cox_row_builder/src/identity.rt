@@ -42,7 +42,7 @@ pub fn identity_row(alloc: Global, ctx: &Context) -> Result<Row, AllocError>
     places.push(0)?;
     let mut pool = PolyList::new(alloc);
     pool.push(&Poly::one(alloc)?.view())?;
-    Ok(Row::whole(
+    Ok(Row::own(
         alloc,
         extremal,
         places,

@@ -20,7 +20,7 @@ use Rattle.cox_context.proofs.Shifting.{element-at, member-below}
 use Rattle.cox_row.specs.declared.row.Row.{Row}
 use Rattle.cox_row.specs.declared.row.TheConstants.{MU_LIMIT}
 use Rattle.cox_row.specs.Mus.{value_at}
-use Rattle.cox_row.specs.declared.row.View.{View}
+use Rattle.cox_row.specs.declared.row.SharedPolynomials.{SharedPolynomials}
 use Rattle.cox_row.specs.Views.{ServesFor}
 use Rattle.cox_row.specs.RowOf.{AreValuesOf, IsRowOf, pool_of}
 use Rattle.cox_row.specs.Within.{IsRowWithin}
@@ -43,7 +43,7 @@ module _ (A : IntegerMatrix) (g : IsAdmissible A) (members : List (List ℕ)) (c
       (arc_value row.values).places (pool_of row) are.extremal are.polynomials within.coefficients
 
   -- a coefficient of P(x,w) is one of P(g(x),g(w))
-  served-coefficient : (view : Option View) (v : List ℕ) → ServesFor A members (word_at members i) view v
+  served-coefficient : (view : Option SharedPolynomials) (v : List ℕ) → ServesFor A members (word_at members i) view v
       → AreValuesOf A members v (arc_value row.values) → (x : List ℕ) (k : ℕ) (c : ℤ)
       → IsLargeCoefficient A limit x (word_at members i) k c → ⊥
   served-coefficient None v e are x k c h = kept-coefficient i inside (rw e at are) x k c h

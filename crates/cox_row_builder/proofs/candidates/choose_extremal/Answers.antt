@@ -3,7 +3,7 @@ use Rattle.std.proofs.Common.{◌≡◌, length, arith}
 use Rattle.cox_base.specs.IntegerMatrix.{integer_matrix}
 use Rattle.cox_context.specs.Numbers.{word_at}
 use Rattle.cox_row.specs.Extremal.{IsExtremal}
-use Rattle.cox_row_builder.proofs.Picked.{picked-none, picked-next}
+use Rattle.cox_row_builder.proofs.PickedNumbers.{picked-none, picked-next}
 use Rattle.cox_row_builder.proofs.PickedExtremals.{decided-extremal, extremals-picked}
 use Rattle.cox_row_builder.proofs.candidates.choose_extremal.Goals as goal
 

@@ -3,7 +3,7 @@ use Rattle.std.proofs.Common.{◌≤◌, length, vec_len, vec_capacity}
 use Rattle.cox_base.specs.IntegerMatrix.{integer_matrix}
 use Rattle.cox_context.specs.Numbers.{word_at}
 use Rattle.cox_row.specs.Extremal.{IsExtremal}
-use Rattle.cox_row_builder.proofs.Picked.{ArePicked}
+use Rattle.cox_row_builder.proofs.PickedNumbers.{ArePicked}
 use Rattle.cox_row_builder.proofs.candidates.choose_extremal.Given as goal
 
 abbrev pub invariant-loop-x : goal.invariant-loop-x

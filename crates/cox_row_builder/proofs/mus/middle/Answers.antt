@@ -7,7 +7,7 @@ use Rattle.cox_poly.specs.Polynomial.{coefficient}
 use Rattle.cox_context.specs.Numbers.{word_at}
 use Rattle.cox_context.proofs.Shifting.{length-at}
 use Rattle.cox_hecke.proofs.AllRows.{mu-by_polynomial}
-use Rattle.cox_row_builder.proofs.Middles.{middle-odd, middle-even}
+use Rattle.cox_row_builder.proofs.NotedMus.{middle-odd, middle-even}
 use Rattle.cox_row_builder.proofs.mus.middle.Goals as goal
 
 pub returns-then-difference-eq1 : goal.returns-then-difference-eq1

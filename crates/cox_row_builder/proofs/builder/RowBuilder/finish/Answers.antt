@@ -31,13 +31,13 @@ returns-clause-row c =
     c.args.self (omega (arith, c.requires.done)) last c.in_default.ensures.none c.requires.underway
     in record {
       kept = word_at c.args.ctx.now.members c.args.i;
-      serves = rw c.in_ok-whole.ensures.view refl;
+      serves = rw c.in_ok-own.ensures.view refl;
       values = record {
-        extremal = rw (c.in_ok-whole.ensures.extremal, c.shrink.ensures.extremal) row.extremal;
+        extremal = rw (c.in_ok-own.ensures.extremal, c.shrink.ensures.extremal) row.extremal;
         polynomials = rw (
-          c.in_ok-whole.ensures.extremal,
-          c.in_ok-whole.ensures.places,
-          c.in_ok-whole.ensures.pool,
+          c.in_ok-own.ensures.extremal,
+          c.in_ok-own.ensures.places,
+          c.in_ok-own.ensures.pool,
           c.into_list.ensures,
           c.shrink.ensures.extremal,
           c.shrink.ensures.places,
@@ -45,7 +45,7 @@ returns-clause-row c =
         )
             c.requires.underway.begun.polynomials;
       };
-      mus = rw (c.in_ok-whole.ensures.neighbours, c.in_ok-whole.ensures.mu, c.in-Ok.ensures.values, c.shrink.ensures.numbers)
+      mus = rw (c.in_ok-own.ensures.neighbours, c.in_ok-own.ensures.mu, c.in-Ok.ensures.values, c.shrink.ensures.numbers)
           (finished-mus (integer_matrix c.args.ctx.now.matrix) c.len-len.ensures.admissible c.args.ctx.now.members
           c.len-len.ensures.closed c.args.i c.requires.i c.args.self.done row.done last c.args.limit
           c.args.self.mus.numbers.items c.args.self.mus.values.items row.within c.requires.underway.noted);
@@ -53,6 +53,6 @@ returns-clause-row c =
 
 pub returns-clause-within : goal.returns-clause-within
 returns-clause-within c = record {
-  coefficients = rw (c.in_ok-whole.ensures.pool, c.into_list.ensures, c.shrink.ensures.pool) c.requires.underway.begun.small;
-  mu = rw c.in_ok-whole.ensures.mu c.in-Ok.ensures.small;
+  coefficients = rw (c.in_ok-own.ensures.pool, c.into_list.ensures, c.shrink.ensures.pool) c.requires.underway.begun.small;
+  mu = rw c.in_ok-own.ensures.mu c.in-Ok.ensures.small;
 }

@@ -8,7 +8,7 @@ use Rattle.cox_context.specs.Numbers.{word_at}
 use Rattle.cox_hecke.specs.Row.{IsKazhdanLusztig}
 use Rattle.cox_row.specs.Polynomials.{polynomial_at}
 use Rattle.cox_row.proofs.RisingNumbers.{rising-few}
-use Rattle.cox_row_builder.proofs.Middles.{noted-large}
+use Rattle.cox_row_builder.proofs.NotedMus.{noted-large}
 use Rattle.cox_row_builder.proofs.FoundPolynomials.{begun-skip}
 use Rattle.cox_row_builder.proofs.LargeCoefficients.{within-none, least-large}
 use Rattle.cox_row_builder.proofs.LargeFound.{large-skip}

@@ -3,7 +3,7 @@ use Rattle.cox_base.specs.IntegerMatrix.{integer_matrix}
 use Rattle.cox_context.specs.Numbers.{word_at}
 use Rattle.cox_hecke.proofs.Descended.{mu-below}
 use Rattle.cox_row.proofs.MuOfElements.{mu-zero}
-use Rattle.cox_row_builder.proofs.Middles.{noted-skip}
+use Rattle.cox_row_builder.proofs.NotedMus.{noted-skip}
 use Rattle.cox_row_builder.proofs.FoundPolynomials.{begun-skip}
 use Rattle.cox_row_builder.proofs.LargeFound.{large-skip}
 use Rattle.cox_row_builder.proofs.Shifts.{least-after}

@@ -1,7 +1,7 @@
 -- A value other than 0 is put behind the others.
 use Rattle.std.proofs.Common.{◌≡◌, pos, FitsSigned, w64, to_z, of_z, rules, sym, ap, ◌∙◌}
 use Rattle.std.proofs.lemmas.Int.{to_z-of_z}
-use Rattle.cox_row_builder.proofs.Middles.{noted-skip, noted-push}
+use Rattle.cox_row_builder.proofs.NotedMus.{noted-skip, noted-push}
 use Rattle.cox_row_builder.proofs.mus.Mus.note.Goals as goal
 
 pub returns-in_ok-push-2 : goal.returns-in_ok-push-2
