@@ -9,9 +9,9 @@ tries an edit stands in a folder of its own. Their times are those of the kernel
 between two looks is lost, a quarter of a second at most each time.
 
 It prints a row for each crate, as the table of docs/DECISIONS.md has them: its proof with that of its tests, its edits, both together, and
-the commit that is checked out. With --write it puts the rows there, and what the gate printed last into README.md. What the gate kept from
-an earlier run it proves not again: such a crate keeps its row. A crate that is gone loses it. Of a gate that has ended only what it printed
-is known. The exit status is that of the command. It needs Python 3 and Linux alone, and is no part of the gate.
+the commit that is checked out. With --write it puts the rows there, and what the gate printed last into README.md. A proof, or edits, that
+the gate kept from an earlier run keep their minutes. A crate that is gone loses its row. Of a gate that has ended only what it printed is
+known. The exit status is that of the command. It needs Python 3 and Linux alone, and is no part of the gate.
 """
 import argparse
 import os
@@ -164,10 +164,14 @@ def main():
     clock = (time.monotonic() - begun) / 60
     used = resource.getrusage(resource.RUSAGE_CHILDREN)
     kept = re.findall(r"^rt: (\w+) is kept:", printed, re.M)
+    tried = re.findall(r"^rt: (\w+): [0-9]+ of its [0-9]+ must-fail edits were tried by an earlier run", printed, re.M)
     commit = subprocess.run(["git", "rev-parse", "--short=8", "HEAD"], cwd=TOP, stdout=subprocess.PIPE, text=True).stdout.strip()
     document = read(DECISIONS)
     rows = {crate: (float(proof or 0), float(edits or 0), of) for crate, proof, edits, of in ROW.findall(document) if crate in crates()}
-    rows.update({crate: (proof, edits, commit) for crate, (proof, edits) in watch.minutes().items() if crate in crates() and crate not in kept})
+    for crate, (proof, edits) in watch.minutes().items():
+        if crate in crates() and not (crate in kept and (crate in tried or not edits)):
+            before = rows.get(crate, (0.0, 0.0, commit))
+            rows[crate] = (before[0] if crate in kept else proof, before[1] if crate in tried else edits, commit)
     shown = lambda minutes: f"{minutes:.1f}" if minutes >= 0.05 else ""
     table = HEAD
     for crate, (proof, edits, of) in sorted(rows.items(), key=lambda row: -sum(row[1][:2])):
