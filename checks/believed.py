@@ -2,6 +2,7 @@
 """Which definitions the clauses of `run` unfold to, or those of `check`: what a reader has to believe, beside the toolchain.
 
     checks/believed.py [--list] [--kit KIT] [--clause NAME] [--beyond OTHER] [FUNCTION]
+    checks/believed.py [--list] CRATE::NAME        as cox_module::cell_module, or a law: cox_replies::printed_modules
     checks/believed.py --command NAME
     checks/believed.py --write
 
@@ -10,8 +11,8 @@ crates/cox_cert/src/checking.rt, and of `code`, which gives the exit status, in 
 `use` lines and definitions of crates/*/specs. For each file it prints how many lines those of
 its definitions have that are reached, and which are not reached; with `--list` also which are. Then come the types of
 the code that are reached, and the names of std and of the kit's crates. With `--kit`, the folder of the toolchain, the
-definitions of `clap` are followed too. With `--clause` it begins with the clause of that name of FUNCTION alone. With `--beyond` it leaves out what
-the clauses of that function unfold to.
+definitions of `clap` are followed too. With `--clause` it begins with the clause of that name of FUNCTION alone. With `--beyond` it leaves
+out what the clauses of that function unfold to. CRATE::NAME is any function of a crate's src/: a public call, or a law.
 
 With `--command` it prints what is proved of one command, say `pol`: its clause of the law `commands` in crates/cox_shell/src/laws.rt. Then
 come the lines that a reader of that has to believe: of the mathematics that the answer is, of its text, and of its refusals, with the tokens
@@ -124,6 +125,45 @@ def clauses(function, clause):
     if clause:
         return [(here, named[clause])]
     return [(here, "\n".join(named.values())), head_of(STATUSES[STARTS[function]], "code")]
+
+
+def function_of(name):
+    """Where to begin for a function that is written CRATE::NAME: its file, and its head."""
+    crate, _, function = name.partition("::")
+    folder = os.path.join(TOP, "crates", crate, "src")
+    for root, _, names in os.walk(folder):
+        for path in sorted(os.path.join(root, it) for it in names if it.endswith(".rt")):
+            with open(path, encoding="utf-8") as text:
+                if re.search(rf"\bpub fn {function}\b", text.read()):
+                    return [head_of(os.path.relpath(path, os.path.join(TOP, "crates")), function)]
+    return sys.exit(f"{crate} has no public function {function}")
+
+
+def laws_of(crates):
+    """The laws of crates, written CRATE::NAME."""
+    found = []
+    for crate in crates:
+        path = os.path.join(TOP, "crates", crate, "src", "laws.rt")
+        if os.path.exists(path):
+            with open(path, encoding="utf-8") as text:
+                found += [f"{crate}::{name}" for name in re.findall(r"^pub fn (\w+)", text.read(), re.M)]
+    return found
+
+
+def twins(files):
+    """Names that stand for two things among what the clauses of `run` and `check` unfold to: definitions, types and constants of the code."""
+    places = defaultdict(set)
+    for function in ("run", "check"):
+        reached, outside = follow(files, clauses(function, None))
+        for path, items in reached.items():
+            for item in items:
+                places[item.name].add(place(path))
+        for path, name in outside:
+            if own(path) and path.endswith(".TheConstants"):
+                places[name].add(place(path))
+            elif own(path) and not path.endswith(".TheVariants"):
+                places[name].add(place(path))
+    return {name: sorted(where) for name, where in places.items() if len(where) > 1}
 
 
 def names_in(text):
@@ -272,7 +312,14 @@ def numbers(files):
         for crate in {path.split(".")[1] for path in reached}
     }
     left = sum(len(item.lines) for path, items in of["run"].items() if items for item in files[path].all if item not in items)
+    crates = sorted({path.split(".")[1] for path in files})
+    module = follow(files, function_of("cox_module::cell_module"))[0]
+    laws = follow(files, [start for name in laws_of(crates) for start in function_of(name)])[0]
+    new = lambda reached: {path: items - of["run"][path] - of["check"][path] for path, items in reached.items()}
     return {
+        "module": lines(module),
+        "module_new": lines(new(module)),
+        "laws": lines(new(laws)),
         "run": by_crate(of["run"]),
         "beyond": by_crate(beyond),
         "total": lines(of["run"]),
@@ -329,6 +376,9 @@ def told(files):
     put(path, "It unfolds to ", known["check"], " lines")
     put(path, "of which ", known["check"] - known["more"], " are among those above")
     put(path, "The ", known["more"], " that are not")
+    put(path, "It unfolds to ", known["module"], " lines, of which")
+    put(path, "of which ", known["module_new"], " stand in neither list")
+    put(path, "All laws together unfold to ", known["laws"], " lines more")
     put("README.md", "read the definitions (", known["total"], " lines for `coxeter`")
     put("README.md", "`coxeter`, ", known["check"], " for `coxcheck`")
     put("README.md", "for `coxcheck`, ", known["total"] + known["more"], " for both)")
@@ -379,7 +429,7 @@ def main():
     words.add_argument("--beyond", choices=STARTS, help="leave out what this function's clauses unfold to")
     words.add_argument("--command", help="print what one command's answer unfolds to")
     words.add_argument("--write", action="store_true", help="write the counts into the documents")
-    words.add_argument("function", nargs="?", choices=STARTS, default="run", help="whose clauses (default: run)")
+    words.add_argument("function", nargs="?", default="run", help="whose clauses: run, run_one, check or CRATE::NAME (default: run)")
     words = words.parse_args()
     listed = words.list
     crates = os.path.join(TOP, "crates")
@@ -398,7 +448,10 @@ def main():
             with open(os.path.join(TOP, path), "w", encoding="utf-8") as document:
                 document.write(new)
         return None
-    reached, outside = follow(files, clauses(words.function, words.clause))
+    if words.function not in STARTS and "::" not in words.function:
+        sys.exit(f"no function {words.function}: name {', '.join(STARTS)}, or CRATE::NAME")
+    starts = clauses(words.function, words.clause) if words.function in STARTS else function_of(words.function)
+    reached, outside = follow(files, starts)
     if words.beyond:
         known, _ = follow(files, clauses(words.beyond, None))
         reached = defaultdict(set, {path: items - known[path] for path, items in reached.items()})

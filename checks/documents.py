@@ -399,6 +399,8 @@ def definitions(problems, crates):
 def counts(problems, crates):
     """What documents say of the lines that have to be believed."""
     files = believed.specs([os.path.join(TOP, "crates", it) for it in sorted(crates)])
+    for name, places in sorted(believed.twins(files).items()):
+        problems.want(False, f"{DEFINITIONS}: {name} stands for two things, in {' and '.join(places)}")
     documents, missing = believed.told(files)
     for sentence in missing:
         problems.want(False, sentence)
