@@ -225,8 +225,8 @@ PARTS = ("mathematics", "text", "refusals")
 
 def commands(files):
     """The commands on elements and on the whole group, by their names: each as it is written."""
-    table = files[GRAMMAR + "CommandWord"].items["word_of"].text()
-    found = re.findall(r'word_of \(?(\w+).* = codes "(\w+)"', table)
+    table = files[GRAMMAR + "CommandWord"].items["command_text"].text()
+    found = re.findall(r'command_text \(?(\w+).* = codes "(\w+)"', table)
     return {name: name + SHAPES[shape] for shape, name in found if shape in SHAPES}
 
 

@@ -27,7 +27,7 @@ use Rattle.cox_rows.proofs.NeedDecided.{needs_beyond-same}
 use Rattle.cox_rows.proofs.FaultsOfRows.{fault-beyond}
 use Rattle.cox_inverse.specs.declared.interval.Interval.{Interval}
 use Rattle.cox_inverse.specs.Intervals.{IsInterval}
-use Rattle.cox_inverse.specs.declared.finite.WholeGroup.{WholeGroup}
+use Rattle.cox_inverse.specs.declared.finite.LongestElement.{LongestElement}
 use Rattle.cox_inverse.specs.WholeGroups.{IsReadable}
 use Rattle.cox_answers.specs.Kept.{AreOf, AreKept, IsMore, Keeps}
 use Rattle.cox_answers.specs.Faults.{unanswered_by, unless_fault}
@@ -67,7 +67,7 @@ module _ (limits : Limits) (G : CoxeterMatrix) (g : IsAdmissible (integer_matrix
 
 -- where inverse polynomials are read off the rows, the rows between a member and what is below it are held, and not refused
 pub read_off-keeps : (limits : Limits) (G : CoxeterMatrix) → IsAdmissible (integer_matrix G) → (y w : List ℕ) (ends : Ends)
-    (rows : Holding) (whole : WholeGroup) → AreOf G limits rows → IsReadOff rows whole → IsClosed (integer_matrix G) rows.elements.members
+    (rows : Holding) (whole : LongestElement) → AreOf G limits rows → IsReadOff rows whole → IsClosed (integer_matrix G) rows.elements.members
     → HoldsEnds (integer_matrix G) y w ends rows
     → IsRefused (RefusesBetween limits (integer_matrix G) y w) None × HoldsBetween (integer_matrix G) y w ends rows
 read_off-keeps limits G g y w ends rows whole of read closed numbers = (
@@ -89,7 +89,7 @@ all-keeps limits G g y w ends (Some rows) of numbers closed there small =
     (all-allowed limits G g y w ends rows of inside numbers small, all-holds limits G g y w ends rows of inside numbers there)
 
 -- a whole group that is found is one that inverse polynomials are read off
-pub read_off-found : (rows : Holding) (found : Option WholeGroup) → ((i : ℕ) → i < length rows.elements.members
+pub read_off-found : (rows : Holding) (found : Option LongestElement) → ((i : ℕ) → i < length rows.elements.members
     → IsBeyond (integer_matrix rows.elements.matrix) rows.limit (word_at rows.elements.members i) → ⊥)
     → IfSome found (IsReadable rows.elements (HasRow rows) (inverse_limit rows.limit)) → IfSome found (IsReadOff rows)
 read_off-found rows None small none = tt

@@ -10,7 +10,7 @@ use Rattle.cox_row_builder.specs.declared.fault.StepFault.{StepFault}
 use Rattle.cox_rows.specs.Beyond.{IsBeyond, NeedsBeyond}
 use Rattle.cox_rows.specs.Holding.{Holding, HasRow}
 use Rattle.cox_rows.specs.RowsFaults.{IsRowsFault}
-use Rattle.cox_inverse.specs.declared.finite.WholeGroup.{WholeGroup}
+use Rattle.cox_inverse.specs.declared.finite.LongestElement.{LongestElement}
 use Rattle.cox_inverse.specs.WholeGroups.{IsReadable}
 use Rattle.cox_command.specs.declared.refusal.Refusal.{Refusal}
 use Rattle.cox_replies.specs.Limits.{Limits}
@@ -44,11 +44,11 @@ IsFaultOfOne e limit numbers fault = (k : ℕ) × (k < length numbers)
 
 -- inverse polynomials may be read off the rows: all of a finite group are held, none is beyond its limits, and no coefficient is above the
 -- limit of inverse polynomials
-pub record IsReadOff (rows : Holding) (whole : WholeGroup) : Type 0 where
+pub record IsReadOff (rows : Holding) (whole : LongestElement) : Type 0 where
   pub readable : IsReadable rows.elements (HasRow rows) (inverse_limit rows.limit) whole
   pub small : (i : ℕ) → i < length rows.elements.members
       → ¬ IsBeyond (integer_matrix rows.elements.matrix) rows.limit (word_at rows.elements.members i)
 
 -- where a whole group was found, the rows that are kept are such
-abbrev pub AreReadOff : Option Holding → Option (Option WholeGroup) → Type 0
+abbrev pub AreReadOff : Option Holding → Option (Option LongestElement) → Type 0
 AreReadOff kept whole = IfSome whole (λ found. IfSome found (λ group. IsSomeAnd kept (λ rows. IsReadOff rows group)))

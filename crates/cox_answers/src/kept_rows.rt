@@ -10,7 +10,7 @@ ghost use Rattle.cox_answers.specs.KeptBetween.{IsReadOff};
 ghost use Rattle.cox_answers.specs.LentRows.{LendsRows};
 
 use crate::answers::between::{find_whole, has_all};
-use cox_inverse::WholeGroup;
+use cox_inverse::LongestElement;
 use cox_rows::Rows;
 use std::marker::Model;
 
@@ -20,7 +20,7 @@ use std::marker::Model;
 pub struct KeptRows {
     rows: Option<Rows>,
     // What inverse polynomials are read off, if that was looked for since the rows changed.
-    whole: Option<Option<WholeGroup>>,
+    whole: Option<Option<LongestElement>>,
 }
 
 impl Model for KeptRows {
@@ -63,7 +63,7 @@ impl KeptRows {
     }
 
     /// What inverse polynomials are read off, if that was found.
-    pub fn whole_group(&self) -> Option<WholeGroup>
+    pub fn whole_group(&self) -> Option<LongestElement>
         ensures { IfSome result (λ group. IsSomeAnd self.now (λ rows. IsReadOff rows group)) }
     {
         match self.whole {

@@ -12,7 +12,7 @@ use crate::row_maker::RowMaker;
 use crate::whole_group_policy::WholeGroupPolicy;
 use cox_base::{Coxeter, MAX_RANK, Word};
 use cox_command::Inquiry;
-use cox_inverse::{Interval, WholeGroup};
+use cox_inverse::{Interval, LongestElement};
 use cox_minroots::RootTable;
 use cox_options::Options;
 use cox_replies::Unanswered;
@@ -120,7 +120,7 @@ impl Workspace {
     }
 
     /// What inverse polynomials are read off, where all rows of a finite group are kept.
-    pub(crate) fn whole_group(&self) -> Option<WholeGroup>
+    pub(crate) fn whole_group(&self) -> Option<LongestElement>
         ensures { IfSome result (λ group. IsSomeAnd self.now.rows (λ rows. IsReadOff rows group)) }
     {
         self.kept.whole_group()

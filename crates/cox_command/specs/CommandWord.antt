@@ -10,34 +10,34 @@ use Rattle.cox_command.specs.declared.command_word.CommandWord.{CommandWord}
 use Rattle.cox_command.specs.declared.command_word.CommandWord.TheVariants.{Named, Matrix, Quit, Jobs, One, Two, Plain, Work}
 
 -- the word of each command
-abbrev pub word_of : CommandWord → List ℕ
-word_of Named = codes "type"
-word_of Matrix = codes "matrix"
-word_of Quit = codes "quit"
-word_of Jobs = codes "jobs"
-word_of (One Compute) = codes "compute"
-word_of (One Length) = codes "length"
-word_of (One Inverse) = codes "inverse"
-word_of (One Descent) = codes "descent"
-word_of (One Coatoms) = codes "coatoms"
-word_of (One Betti) = codes "betti"
-word_of (One (OfRow Klbasis)) = codes "klbasis"
-word_of (One (OfRow Ihbetti)) = codes "ihbetti"
-word_of (One (OfRow Extremals)) = codes "extremals"
-word_of (One Cert) = codes "cert"
-word_of (One Module) = codes "module"
-word_of (Two Inorder) = codes "inorder"
-word_of (Two Interval) = codes "interval"
-word_of (Two Rpol) = codes "rpol"
-word_of (Two (OfEntry Pol)) = codes "pol"
-word_of (Two (OfEntry Mu)) = codes "mu"
-word_of (Two Invpol) = codes "invpol"
-word_of (Plain Lwgraph) = codes "lwgraph"
-word_of (Plain Rwgraph) = codes "rwgraph"
-word_of (Plain Lcells) = codes "lcells"
-word_of (Plain Rcells) = codes "rcells"
-word_of (Plain Lrcells) = codes "lrcells"
-word_of Work = codes "work"
+abbrev pub command_text : CommandWord → List ℕ
+command_text Named = codes "type"
+command_text Matrix = codes "matrix"
+command_text Quit = codes "quit"
+command_text Jobs = codes "jobs"
+command_text (One Compute) = codes "compute"
+command_text (One Length) = codes "length"
+command_text (One Inverse) = codes "inverse"
+command_text (One Descent) = codes "descent"
+command_text (One Coatoms) = codes "coatoms"
+command_text (One Betti) = codes "betti"
+command_text (One (OfRow Klbasis)) = codes "klbasis"
+command_text (One (OfRow Ihbetti)) = codes "ihbetti"
+command_text (One (OfRow Extremals)) = codes "extremals"
+command_text (One Cert) = codes "cert"
+command_text (One Module) = codes "module"
+command_text (Two Inorder) = codes "inorder"
+command_text (Two Interval) = codes "interval"
+command_text (Two Rpol) = codes "rpol"
+command_text (Two (OfEntry Pol)) = codes "pol"
+command_text (Two (OfEntry Mu)) = codes "mu"
+command_text (Two Invpol) = codes "invpol"
+command_text (Plain Lwgraph) = codes "lwgraph"
+command_text (Plain Rwgraph) = codes "rwgraph"
+command_text (Plain Lcells) = codes "lcells"
+command_text (Plain Rcells) = codes "rcells"
+command_text (Plain Lrcells) = codes "lrcells"
+command_text Work = codes "work"
 
 -- all of them
 abbrev pub commands : List CommandWord
@@ -49,4 +49,4 @@ commands = Named ∷ Matrix ∷ Quit ∷ Jobs
 
 -- the command that a token names, if it names one: the one whose word it is
 abbrev pub command_word_of : List ℕ → Option CommandWord
-command_word_of token = find (λ command. bytes_eq token (word_of command)) commands
+command_word_of token = find (λ command. bytes_eq token (command_text command)) commands

@@ -24,11 +24,11 @@ abbrev pub names_type : List ℕ → ℕ → Bool
 names_type (letter ∷ []) n = is_type letter n
 names_type _ n = false
 
--- Whether a refusal applies to a command with these arguments, where the group that is set, if any, has this rank. WrongCount: the number of
--- arguments is not the command's; for `matrix` it is judged after the rank, if there is an argument at all. WrongNumber: a number argument
--- is no number, or is outside its range; the numbers of `work` are a state of the generator and how many words. NoGroup: the command needs
--- a group, and none is set. UnknownType: there is no such type. WrongLabel: a label is not 0, 2, 3, 4 or 6. LongWord: a word has more pieces
--- than words may have letters. ForeignLetter: a word is not `e` and has a piece that is no letter of the group.
+-- Whether a refusal applies to a command with these arguments, where the group that is set, if any, has this rank. WrongCount: the number
+-- of arguments is not the command's; for `matrix` it is judged after the rank, if there is an argument at all. WrongNumber: a number
+-- argument is no number, or is outside its range; the numbers of `work` are a state of the generator and how many words. NoGroup: the
+-- command needs a group, and none is set. UnknownType: there is no such type. WrongLabel: a label is not 0, 2, 3, 4 or 6. LongWord: a word
+-- has more pieces than words may have letters. ForeignLetter: a word is not `e` and has a piece that is no letter of the group.
 abbrev pub applies : CommandWord → List (List ℕ) → Option ℕ → Refusal → Bool
 applies Named arguments rank WrongCount = not (length arguments == 2)
 applies Matrix arguments rank WrongCount = if is_number_in 1 MAX_RANK (argument arguments 0)

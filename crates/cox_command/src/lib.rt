@@ -4,7 +4,7 @@
 //! Grammar and causes are definitions of their own in `specs/`, one table or one test each. The parts of a line are those of `cox_tokens`.
 //! Nothing here takes memory.
 //!
-//! A new command with words, or without arguments, is a variant, a row in `word_of`, a place in the list `commands`, and a row in
+//! A new command with words, or without arguments, is a variant, a row in `command_text`, a place in the list `commands`, and a row in
 //! `command_word`. One of another shape is also a variant of `Inquiry` and `CommandWord`, a function that reads its arguments, a case of
 //! `command_by`, and a case of each test in `specs/LineRefusal.antt` that speaks of it.
 //!

@@ -9,7 +9,7 @@ use Rattle.cox_context.specs.Numbering.{IsNumberOf}
 use Rattle.cox_row.specs.Polynomials.{polynomial_at}
 use Rattle.cox_row_builder.specs.LargeMembers.{IsWithinLimit}
 use Rattle.cox_inverse.specs.Longest.{IsLongest}
-use Rattle.cox_inverse.specs.declared.finite.WholeGroup.{WholeGroup}
+use Rattle.cox_inverse.specs.declared.finite.LongestElement.{LongestElement}
 
 -- the member with this number is the longest element, so each element is a member
 pub record IsLongestMember (e : Elements) (longest : ℕ) : Type 0 where
@@ -17,8 +17,8 @@ pub record IsLongestMember (e : Elements) (longest : ℕ) : Type 0 where
   pub is : IsLongest (integer_matrix e.matrix) (word_at e.members longest)
 
 -- inverse polynomials can be read off the rows: w0 is known, the row of each member is there, and no coefficient is above the limit
-pub record IsReadable (e : Elements) (holds : ℕ → Type 0) (limit : ℤ) (whole : WholeGroup) : Type 0 where
-  pub longest : IsLongestMember e whole.longest
+pub record IsReadable (e : Elements) (holds : ℕ → Type 0) (limit : ℤ) (w0 : LongestElement) : Type 0 where
+  pub longest : IsLongestMember e w0.longest
   pub there : (i : ℕ) → i < length e.members → holds i
   pub small : (x : List ℕ) (i : ℕ) → i < length e.members → IsWithinLimit (integer_matrix e.matrix) limit x (word_at e.members i)
 

@@ -18,22 +18,22 @@ use cox_context::Context;
 use cox_poly::PolyView;
 use cox_row::{LowerRows, Row, polynomial};
 
-/// A whole finite group with all its rows, off which inverse polynomials are read. It is known by the number of the longest element.
+/// The longest element w0 of a finite group whose rows are all there, by its number: with it inverse polynomials are read off these rows.
 #[derive(Clone, Copy, Drop)]
-pub struct WholeGroup {
+pub struct LongestElement {
     pub(crate) longest: u32,
 }
 
-impl WholeGroup {
-    /// The group; `None` exactly where the members are no whole finite group, a row is not there, or a coefficient of the rows is above the
-    /// limit.
+impl LongestElement {
+    /// The longest element; `None` exactly where the members are no whole finite group, a row is not there, or a coefficient of the rows is
+    /// above the limit.
     ///
     /// Where the rows' own limit is not above it, no coefficient is looked at.
-    pub fn of<L: LowerRows>(ctx: &Context, rows: &L, limit: i64) -> Option<WholeGroup>
+    pub fn of<L: LowerRows>(ctx: &Context, rows: &L, limit: i64) -> Option<LongestElement>
         requires rows { L.elements rows.now ≡ ctx.now }
         requires least { pos 0 ≤ℤ limit }
         ensures readable { IfSome result (IsReadable ctx.now (L.holds rows.now) limit) }
-        ensures none { IfNone result ((whole : WholeGroup) → ¬ IsReadable ctx.now (L.holds rows.now) limit whole) }
+        ensures none { IfNone result ((w0 : LongestElement) → ¬ IsReadable ctx.now (L.holds rows.now) limit w0) }
     {
         let longest = longest_member(ctx)?;
         let greatest = rows.limit();
@@ -45,11 +45,10 @@ impl WholeGroup {
                 return None;
             }
         }
-        Some(WholeGroup { longest })
+        Some(LongestElement { longest })
     }
 
-    /// Q(y,w), read off the row of w0 y, for the members y <= w. The limit is that with which the group was found: no coefficient is above
-    /// it.
+    /// Q(y,w), read off the row of w0 y, for the members y <= w. The limit is that with which w0 was found: no coefficient is above it.
     pub fn polynomial<'a, L: LowerRows>(
         self,
         ctx: &Context,

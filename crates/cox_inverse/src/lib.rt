@@ -22,6 +22,6 @@ mod row;
 mod sums;
 
 pub use fault::{InverseFault, MAX_COEFFICIENT};
-pub use finite::WholeGroup;
+pub use finite::LongestElement;
 pub use interval::Interval;
 pub use row::{InverseRow, inverse_row};

@@ -91,8 +91,8 @@ module _ (e : Elements) (g : IsAdmissible (integer_matrix e.matrix)) (closed : I
   no-back i j l m n is =
       ⊎_elim (λ (zero : n ≡ pos 0). zero)
       (λ (some : n ≢ pos 0).
-      let up = closed.upward j i m (omega (arith, l, m)) (mu-below (integer_matrix e.matrix) g (word_at e.members j) (word_at e.members i) n is
-      some)
+      let up = closed.upward j i m (omega (arith, l, m))
+      (mu-below (integer_matrix e.matrix) g (word_at e.members j) (word_at e.members i) n is some)
       in let same : i ≡ j = omega (arith, l, up)
       in mu-short (integer_matrix e.matrix) g (word_at e.members j) (word_at e.members i) n (rw same (omega arith)) is)
       (zero_or_not n)

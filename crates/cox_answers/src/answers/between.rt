@@ -12,7 +12,7 @@ ghost use Rattle.cox_replies.specs.InverseReply.{inverse_limit};
 use crate::needs::Ends;
 use crate::row_maker::RowMaker;
 use cox_context::Context;
-use cox_inverse::{MAX_COEFFICIENT, WholeGroup};
+use cox_inverse::{MAX_COEFFICIENT, LongestElement};
 use cox_klstep::StepFault;
 use cox_rows::Rows;
 use std::alloc::Global;
@@ -53,13 +53,13 @@ pub fn has_all(rows: &Rows) -> bool
 }
 
 /// What inverse polynomials may be read off, if the rows of a whole finite group are there and none of their coefficients is too large.
-pub fn find_whole(rows: &Rows) -> Option<WholeGroup>
+pub fn find_whole(rows: &Rows) -> Option<LongestElement>
     ensures { IfSome result (IsReadOff rows.now) }
 {
     if !has_all(rows) {
         return None;
     }
-    WholeGroup::of(rows.context(), rows, inverse_limit(rows.limit()))
+    LongestElement::of(rows.context(), rows, inverse_limit(rows.limit()))
 }
 
 /// How large a coefficient of an inverse polynomial may be in absolute value, where one of a row may be as large as the limit.

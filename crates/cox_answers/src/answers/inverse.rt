@@ -15,7 +15,7 @@ use crate::faults::inverse_unanswered;
 use crate::needs::{Ends, Found};
 use crate::workspace::Workspace;
 use cox_base::{MAX_RANK, Word};
-use cox_inverse::{WholeGroup, inverse_row};
+use cox_inverse::{LongestElement, inverse_row};
 use cox_options::Options;
 use cox_poly::append::put_text;
 use cox_replies::{Unanswered, unrefused};
@@ -52,7 +52,7 @@ fn put_inverse(
     out: &mut Vec<u8>,
     rows: &Rows,
     options: Options,
-    whole: Option<WholeGroup>,
+    whole: Option<LongestElement>,
     y: &Word,
     w: &Word,
     ends: Ends,

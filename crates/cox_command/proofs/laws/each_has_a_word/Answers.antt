@@ -1,5 +1,5 @@
 -- The law `each_has_a_word`. The last case of each table stands for all that it does not name.
-use Rattle.std.proofs.Common.{◌≡◌, Option, Some, refl}
+use Rattle.std.proofs.Common.{◌≡◌, Some, refl}
 use Rattle.cox_command.specs.declared.command_word.CommandWord.{CommandWord}
 use Rattle.cox_command.specs.declared.command_word.CommandWord.TheVariants.{Named, One, Two, Plain}
 use Rattle.cox_command.specs.declared.inquiry.OneWord.{OneWord}
@@ -12,11 +12,11 @@ use Rattle.cox_command.specs.declared.inquiry.EntryKind.{EntryKind}
 use Rattle.cox_command.specs.declared.inquiry.EntryKind.TheVariants.{Pol}
 use Rattle.cox_command.specs.declared.inquiry.NoWord.{NoWord}
 use Rattle.cox_command.specs.declared.inquiry.NoWord.TheVariants.{Lwgraph}
-use Rattle.cox_command.specs.CommandWord.{word_of, command_word_of}
+use Rattle.cox_command.specs.CommandWord.{command_text, command_word_of}
 use Rattle.cox_command.proofs.laws.each_has_a_word.Goals as goal
 
 abbrev HasWord : CommandWord → Type 0
-HasWord command = command_word_of (word_of command) ≡ Some command
+HasWord command = command_word_of (command_text command) ≡ Some command
 
 of_row : (kind : RowKind) → HasWord (One (OfRow kind))
 of_row Klbasis = refl

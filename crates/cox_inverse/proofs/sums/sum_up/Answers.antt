@@ -13,7 +13,8 @@ use Rattle.cox_inverse.proofs.sums.sum_up.Goals as goal
 use Rattle.cox_inverse.proofs.sums.sum_up.Goals.{After-index-x, After-index-z, After-view, in-Some, in_default}
 
 -- the member x, and a member z behind it
-at_x : (g : _) (c : After-index-x g) → c.index-x.result.now ≡ number_before c.args.interval.now.members.items (length c.args.polynomials.now)
+at_x : (g : _) (c : After-index-x g)
+    → c.index-x.result.now ≡ number_before c.args.interval.now.members.items (length c.args.polynomials.now)
 at_x g c = read-number c.args.interval.now.members.items c.len-last.result (length c.args.polynomials.now) c.index-x.result.now
     (omega (arith, c.len-last.ensures, c.args.interval.now.members.ok)) c.requires.more c.index-x.ensures
 

@@ -1,7 +1,6 @@
 -- Where the letter is a left descent of the vertex, no other one has an entry.
 use Rattle.cox_base.specs.IntegerMatrix.{integer_matrix}
 use Rattle.cox_context.specs.Numbers.{word_at}
-use Rattle.cox_context.proofs.PlacedWords.{rising-place}
 use Rattle.std.proofs.Common.{refl}
 use Rattle.cox_module.proofs.Entries.{no_entry-falling}
 use Rattle.cox_module.proofs.image.entry.Goals as goal

@@ -3,7 +3,6 @@ use Rattle.std.proofs.Common.{sym, ◌∙◌}
 use Rattle.std.proofs.lemmas.Bool.{false≢true}
 use Rattle.cox_base.specs.IntegerMatrix.{integer_matrix}
 use Rattle.cox_context.specs.Numbers.{word_at}
-use Rattle.cox_context.proofs.PlacedWords.{rising-place}
 use Rattle.cox_module.proofs.Entries.{no_entry-apart}
 use Rattle.cox_module.proofs.image.half.Goals as goal
 

@@ -3,7 +3,7 @@ use Rattle.std.proofs.Common.{ℕ, ◌<◌, List}
 use Rattle.cox_base.specs.IntegerMatrix.{integer_matrix}
 use Rattle.cox_context.specs.Numbers.{word_at}
 use Rattle.cox_row_builder.specs.LargeMembers.{IsWithinLimit}
-use Rattle.cox_inverse.proofs.finite.WholeGroup.of.Given as goal
+use Rattle.cox_inverse.proofs.finite.LongestElement.of.Given as goal
 
 abbrev pub invariant-loop-i : goal.invariant-loop-i
 invariant-loop-i g l = record {

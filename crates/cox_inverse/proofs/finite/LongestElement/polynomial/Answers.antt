@@ -1,7 +1,7 @@
 -- P(w0 w, w0 y) by its members.
 use Rattle.cox_context.specs.Numbers.{word_at}
 use Rattle.cox_inverse.proofs.TurnedMembers.{turned-value, turned-order, whole-within}
-use Rattle.cox_inverse.proofs.finite.WholeGroup.polynomial.Goals as goal
+use Rattle.cox_inverse.proofs.finite.LongestElement.polynomial.Goals as goal
 
 pub unreachable-requires : goal.unreachable-requires
 unreachable-requires g c =

@@ -8,10 +8,10 @@ use Rattle.cox_poly.specs.Polynomial.{coefficient}
 use Rattle.cox_row.specs.Polynomials.{polynomial_at}
 use Rattle.cox_row.specs.RowOf.{pool_of}
 use Rattle.cox_row.proofs.ViewedPolynomials.{row-polynomials}
-use Rattle.cox_inverse.specs.declared.finite.WholeGroup.{WholeGroup}
+use Rattle.cox_inverse.specs.declared.finite.LongestElement.{LongestElement}
 use Rattle.cox_inverse.specs.WholeGroups.{IsReadable}
 use Rattle.cox_inverse.proofs.FirstPairs.{row-small}
-use Rattle.cox_inverse.proofs.finite.WholeGroup.of.Goals as goal
+use Rattle.cox_inverse.proofs.finite.LongestElement.of.Goals as goal
 
 pub loop-i-preserved : goal.loop-i-preserved
 loop-i-preserved g c = record {
@@ -44,17 +44,17 @@ if_none None p = p
 
 pub returns-in_err-longest-clause-none : goal.returns-in_err-longest-clause-none
 returns-in_err-longest-clause-none g c =
-    let none : (whole : WholeGroup) → IsReadable c.args.ctx.now (g.L.LowerRows.holds c.args.rows.now) c.args.limit whole → ⊥
-    = λ whole h. c.in_err-longest.ensures.none whole.longest h.longest
+    let none : (w0 : LongestElement) → IsReadable c.args.ctx.now (g.L.LowerRows.holds c.args.rows.now) c.args.limit w0 → ⊥
+    = λ w0 h. c.in_err-longest.ensures.none w0.longest h.longest
     in if_none c.from_residual.result none
 
 pub returns-then-not-has-clause-none : goal.returns-then-not-has-clause-none
-returns-then-not-has-clause-none g c = λ whole h.
+returns-then-not-has-clause-none g c = λ w0 h.
     let there = c.has.ensures.1 (h.there c.loop-i.i (omega (arith, c.loop-i-test.true, c.len-i-end.ensures.len)))
     in both_ways _ c.if-not-has.true there
 
 pub returns-then-not-is_within-clause-none : goal.returns-then-not-is_within-clause-none
-returns-then-not-is_within-clause-none g c = λ whole h.
+returns-then-not-is_within-clause-none g c = λ w0 h.
     let inside : c.loop-i.i < length c.args.ctx.now.members = omega (arith, c.loop-i-test.true, c.len-i-end.ensures.len)
     in let large = rw (to_z-of_z w64 c.args.limit c.ranges.limit) at (c.is_within.ensures.large c.if-not-is_within.true)
     in let one = (row-polynomials (integer_matrix c.args.ctx.now.matrix) c.len-i-end.ensures.admissible c.args.ctx.now.members
