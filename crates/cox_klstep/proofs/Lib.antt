@@ -8,8 +8,8 @@ pub mod NumberedRecursion
 pub mod Filtered
 -- the rows that a row is made from: where they stand, and when they are there
 pub mod NeededRows
--- the corrections of the step by the least left descent, picked from the neighbours
-pub mod PickedNeeds
+-- the list of the members whose rows a row needs, picked from the neighbours
+pub mod NeedsAmongNeighbours
 -- which step is chosen
 pub mod Chosen
 -- how many corrections are among the neighbours
@@ -18,5 +18,5 @@ pub mod CountedCorrections
 pub mod Candidates
 -- how many polynomials are added up
 pub mod StepCounts
--- one polynomial more that is found ahead
-pub mod FoundMore
+-- lists of found polynomials
+pub mod FoundLists

@@ -17,7 +17,8 @@ abbrev pub HasCorrections : Elements → (ℕ → Type 0) → ℕ → Side → �
 HasCorrections e holds i side s = (u : ℕ) (m : ℤ) → u < length e.members
     → IsCorrection side (integer_matrix e.matrix) s (times_letter side s (word_at e.members i)) (word_at e.members u) m → holds u
 
--- s is a descent of the member i, and the rows that the step by it needs are there: that of the shorter element, and those of the corrections
+-- s is a descent of the member i, and the rows that the step by it needs are there: that of the shorter element, and those of the
+-- corrections
 pub record IsAtHand (e : Elements) (holds : ℕ → Type 0) (i : ℕ) (side : Side) (s : ℕ) : Type 0 where
   pub descent : IsDescent side (integer_matrix e.matrix) (word_at e.members i) s
   pub shorter : (j : ℕ) → j < length e.members

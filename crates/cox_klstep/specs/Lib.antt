@@ -19,4 +19,4 @@ pub mod LoweredTo
 -- the tables of a context
 pub mod TablesOf
 -- polynomials of a row that are found before it is made
-pub mod FoundAhead
+pub mod FoundTogether

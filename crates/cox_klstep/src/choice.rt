@@ -159,8 +159,8 @@ fn count_at_hand<L: LowerRows>(
     }
 }
 
-/// How many corrections a step has; `None` exactly where they are not fewer than a bound. It looks at no other row, since most steps are out
-/// of the question by their counts.
+/// How many corrections a step has; `None` exactly where they are not fewer than a bound. It looks at no other row, since most steps are
+/// out of the question by their counts.
 pub fn correction_count(
     ctx: &Context,
     side: Side,

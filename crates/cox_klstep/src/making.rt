@@ -11,13 +11,13 @@ ghost use Rattle.cox_row.specs.Within.{IsRowWithin};
 ghost use Rattle.cox_row_builder.specs.Faults.{IsFault};
 ghost use Rattle.cox_row_builder.specs.Underway.{IsUnderway};
 ghost use Rattle.cox_klstep.specs.CountedSteps.{IsWithinCost, IsCounted, IsWithinCostTo, IsCountedTo};
-ghost use Rattle.cox_klstep.specs.FoundAhead.{IsFoundFor, AreFound};
+ghost use Rattle.cox_klstep.specs.FoundTogether.{IsFoundFor, AreFound};
 ghost use Rattle.cox_klstep.specs.Plans.{IsPlan, plan_cost};
 ghost use Rattle.cox_klstep.specs.SourceOf.{IsSource, source_cost};
 ghost use Rattle.cox_klstep.specs.TablesOf.{AreTables};
 ghost use Rattle.cox_klstep.specs.Tasks.{IsTask};
 
-use crate::ahead::{Ahead, FoundPolynomial};
+use crate::parallel::{FoundCursor, FoundPolynomial};
 use crate::plan::RowPlan;
 use crate::sums::{Source, put_polynomial};
 use crate::tables::Tables;
@@ -70,7 +70,7 @@ impl<'a> RowPlan<'a> {
     }
 }
 
-/// The row of a member w, of which some polynomials may have been found ahead. What the sums had before does not matter.
+/// The row of a member w, of which threads may have found some polynomials. What the sums had before does not matter.
 fn make_row(
     alloc: Global,
     task: &RowTask,
@@ -95,12 +95,12 @@ fn make_row(
     let limit = task.limit;
     let _len = ctx.len();
     let mut builder = RowBuilder::new(alloc, ctx, i);
-    let mut ahead = Ahead::new(found);
+    let mut cursor = FoundCursor::new(found);
     for k in 0..lowered.len() {
         let next = lowered.at(k);
         builder.pass(ctx, i, next.member)?;
-        ahead.come_to(next.member);
-        let found = ahead.polynomial(next.member);
+        cursor.come_to(next.member);
+        let found = cursor.polynomial(next.member);
         add_extremal(
             ctx,
             i,

@@ -21,7 +21,7 @@ ghost use Rattle.cox_klstep.specs.StepOf.{IsRowStep, AreNeeded};
 ghost use Rattle.cox_klstep.specs.CorrectionSums.{GivesAt, numbered_sum};
 ghost use Rattle.cox_row_builder.specs.Counted.{counted};
 ghost use Rattle.cox_klstep.specs.SourceOf.{IsSource, source_cost};
-ghost use Rattle.cox_klstep.specs.FoundAhead.{IsFoundFor};
+ghost use Rattle.cox_klstep.specs.FoundTogether.{IsFoundFor};
 
 use crate::step::{Correction, Step};
 use cox_context::Context;

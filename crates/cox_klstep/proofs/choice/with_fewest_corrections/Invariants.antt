@@ -7,5 +7,6 @@ use Rattle.cox_klstep.proofs.choice.with_fewest_corrections.Given as goal
 abbrev pub invariant-loop-s : goal.invariant-loop-s
 invariant-loop-s g l = record {
   choice : IsChoice l.ctx (g.L.LowerRows.holds l.lower) l.start.descent.member l.best.side l.best.descent l.best.corrections;
-  fewest : (side : Side) (t : ℕ) → t < l.s → HasNoFewer l.ctx (g.L.LowerRows.holds l.lower) l.start.descent.member l.best.corrections side t;
+  fewest : (side : Side) (t : ℕ) → t < l.s
+      → HasNoFewer l.ctx (g.L.LowerRows.holds l.lower) l.start.descent.member l.best.corrections side t;
 }

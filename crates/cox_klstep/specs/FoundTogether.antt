@@ -6,7 +6,7 @@ use Rattle.cox_poly.specs.Polynomial.{coefficient}
 use Rattle.cox_hecke.specs.Row.{IsKazhdanLusztig}
 use Rattle.cox_context.specs.Closed.{Elements}
 use Rattle.cox_context.specs.Numbers.{word_at}
-use Rattle.cox_klstep.specs.declared.ahead.FoundPolynomial.{FoundPolynomial}
+use Rattle.cox_klstep.specs.declared.parallel.FoundPolynomial.{FoundPolynomial}
 
 -- x ≤ w, and the polynomial is P(x,w), for the members w and x with the numbers i and x
 pub record IsFoundFor (e : Elements) (i x : ℕ) (polynomial : List ℤ) : Type 0 where

@@ -1,6 +1,6 @@
 -- What was found stays.
 use Rattle.std.proofs.Common.{◌≡◌, ◌-◌, length}
-use Rattle.cox_klstep.proofs.ahead.Ahead.come_to.Given as goal
+use Rattle.cox_klstep.proofs.parallel.FoundCursor.come_to.Given as goal
 
 abbrev pub invariant-loop-self : goal.invariant-loop-self
 invariant-loop-self l = l.self.found ≡ l.initial.self.found

@@ -5,7 +5,7 @@
 ghost use Rattle.std.specs.Prelude.{◌≡◌, ℕ, ◌<◌, ◌≤◌, length, IfSome};
 ghost use Rattle.std.specs.Thread.{IsSync};
 ghost use Rattle.cox_context.specs.Closed.{Elements};
-ghost use Rattle.cox_klstep.specs.FoundAhead.{IsFoundFor, AreFound};
+ghost use Rattle.cox_klstep.specs.FoundTogether.{IsFoundFor, AreFound};
 ghost use Rattle.cox_klstep.specs.LoweredTo.{IsLoweredBy};
 ghost use Rattle.cox_klstep.specs.Plans.{IsPlan};
 ghost use Rattle.cox_klstep.specs.SourceOf.{IsMadeFrom};
@@ -21,11 +21,11 @@ use cox_row_builder::Steps;
 use std::alloc::Global;
 use std::thread::{Threads, join};
 
-/// For how many extremal members polynomials are found ahead at most. It bounds the memory that they take.
-const MOST_FOUND: usize = 131_072;
+/// For how many extremal members threads find polynomials at most. It bounds the memory that they take.
+const MAX_FOUND: usize = 131_072;
 
-/// How many polynomials have to be looked up if threads are to share that. To start them for fewer takes longer than they save.
-const MOST_ALONE: u64 = 16_384;
+/// From how many look-ups of polynomials on threads share them. To start threads for fewer takes longer than they save.
+const MIN_SHARED_LOOKUPS: u64 = 16_384;
 
 /// P(x,w), for an extremal member x <= w of the member w whose row is made.
 #[derive(Drop)]
@@ -62,13 +62,13 @@ impl<'a> RowPlan<'a> {
             lowered: &tables.lowered,
             limit: self.limit,
         };
-        let end = task.lowered.len().min(MOST_FOUND);
+        let end = task.lowered.len().min(MAX_FOUND);
         if threads < 2 || !is_dear(&task, end) {
             return Vec::new(alloc);
         }
         let mut found = find_from(rt, 0, threads, alloc, &task, end);
-        // If there is no memory for the sort, the list stays as it is. `Ahead` then passes over polynomials that are out of order, and they
-        // are added up anew.
+        // If there is no memory for the sort, the list stays as it is. `FoundCursor` then passes over polynomials that are out of order,
+        // and they are added up anew.
         let _ = found.sort_by_key(|it: &FoundPolynomial| -> u32 { it.member });
         found
     }
@@ -157,8 +157,8 @@ fn find_from<R: Threads + Sync>(
     }
 }
 
-/// What one of the threads finds, as far as there is memory and coefficients are within the limit. It has the place with its number, and from
-/// there on each place behind as many others as there are threads. So all have members at which much is looked up, and others.
+/// What one of the threads finds, as far as there is memory and coefficients are within the limit. It has the place with its number, and
+/// from there on each place behind as many others as there are threads. So all have members at which much is looked up, and others.
 fn find_by(
     thread: u32,
     threads: u32,
@@ -230,27 +230,27 @@ fn is_dear(task: &RowTask, end: usize) -> bool
             passed += 1;
         }
         looked_up = looked_up.saturating_add(2 + (corrections.len() - passed) as u64);
-        if looked_up >= MOST_ALONE {
+        if looked_up >= MIN_SHARED_LOOKUPS {
             return true;
         }
     }
     false
 }
 
-/// Polynomials that were found ahead, as they are come to.
+/// Polynomials that threads found, as they are come to.
 #[derive(Drop)]
-pub(crate) struct Ahead {
+pub(crate) struct FoundCursor {
     pub(crate) found: Vec<FoundPolynomial>,
     /// Those before this place are passed.
     place: usize,
 }
 
-impl Ahead {
+impl FoundCursor {
     /// None of them is passed.
-    pub(crate) fn new(found: Vec<FoundPolynomial>) -> Ahead
+    pub(crate) fn new(found: Vec<FoundPolynomial>) -> FoundCursor
         ensures { result.found ≡ found }
     {
-        Ahead { found, place: 0 }
+        FoundCursor { found, place: 0 }
     }
 
     /// Comes to the member with the number x. Those found for members before it are passed.

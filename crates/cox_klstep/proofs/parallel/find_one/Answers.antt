@@ -1,8 +1,8 @@
 -- The polynomial has the sums of P(x,w).
 use Rattle.std.proofs.Common.{rules, ◌≡◌, true}
 use Rattle.std.specs.Result.{is_ok}
-use Rattle.cox_klstep.proofs.FoundMore.{found-by_sums, found-more}
-use Rattle.cox_klstep.proofs.ahead.find_one.Goals as goal
+use Rattle.cox_klstep.proofs.FoundLists.{found-by_sums, found-more}
+use Rattle.cox_klstep.proofs.parallel.find_one.Goals as goal
 
 pub returns : goal.returns
 returns c =

@@ -1,4 +1,4 @@
--- One polynomial more that is found ahead.
+-- Lists of found polynomials: one more is put behind the others, and those of two threads are put together.
 use Rattle.std.proofs.Common.{◌≡◌, ℕ, List, ℤ, Bool, true, false, [], ◌∷◌, ◌++◌, if◌then◌else◌, ◌∙◌}
 use Rattle.std.proofs.lemmas.List.Elements.{All-nil, All-cons, All-append}
 use Rattle.cox_base.specs.IntegerMatrix.{integer_matrix}
@@ -7,8 +7,8 @@ use Rattle.cox_poly.specs.Polynomial.{coefficient, SameCoefficients}
 use Rattle.cox_hecke.specs.Row.{IsKazhdanLusztig}
 use Rattle.cox_context.specs.Closed.{Elements}
 use Rattle.cox_context.specs.Numbers.{word_at}
-use Rattle.cox_klstep.specs.declared.ahead.FoundPolynomial.{FoundPolynomial}
-use Rattle.cox_klstep.specs.FoundAhead.{IsFoundFor, AreFound}
+use Rattle.cox_klstep.specs.declared.parallel.FoundPolynomial.{FoundPolynomial}
+use Rattle.cox_klstep.specs.FoundTogether.{IsFoundFor, AreFound}
 
 -- the polynomial with the sums of P(x,w)
 pub found-by_sums : (e : Elements) (i x : ℕ) (polynomial sums : List ℤ) → SameCoefficients polynomial sums

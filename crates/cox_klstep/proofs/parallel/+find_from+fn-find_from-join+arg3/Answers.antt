@@ -1,7 +1,7 @@
 -- Two threads found them, or more.
 use Rattle.std.proofs.Common.{rules, ◌≡◌, ◌++◌}
-use Rattle.cox_klstep.proofs.FoundMore.{found-both}
-use Rattle.cox_klstep.proofs.ahead.+find_from+fn-find_from-join+arg3.Goals as goal
+use Rattle.cox_klstep.proofs.FoundLists.{found-both}
+use Rattle.cox_klstep.proofs.parallel.+find_from+fn-find_from-join+arg3.Goals as goal
 
 pub returns-in-Ok : goal.returns-in-Ok
 returns-in-Ok g t c =

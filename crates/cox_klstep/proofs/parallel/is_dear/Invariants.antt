@@ -1,6 +1,6 @@
 -- The place is in range.
 use Rattle.std.proofs.Common.{◌-◌, ◌≤◌, length}
-use Rattle.cox_klstep.proofs.ahead.is_dear.Given as goal
+use Rattle.cox_klstep.proofs.parallel.is_dear.Given as goal
 
 abbrev pub invariant-loop-x : goal.invariant-loop-x
 invariant-loop-x l = l.passed ≤ length l.corrections

@@ -1,7 +1,7 @@
 -- What was found so far.
 use Rattle.std.proofs.Common.{◌-◌}
-use Rattle.cox_klstep.specs.FoundAhead.{AreFound}
-use Rattle.cox_klstep.proofs.ahead.find_by.Given as goal
+use Rattle.cox_klstep.specs.FoundTogether.{AreFound}
+use Rattle.cox_klstep.proofs.parallel.find_by.Given as goal
 
 abbrev pub invariant-loop-k : goal.invariant-loop-k
 invariant-loop-k l = AreFound l.task.ctx.now l.task.member l.found.items
