@@ -189,38 +189,38 @@ class Spoiler:
 
     def __init__(self, text, draw):
         self.draw, self.certificate = draw, read(text.encode())
-        self.head, self.top, self.count, *self.rows, self.end = text.splitlines()
+        self.head, self.top, self.count, *self.entries, self.end = text.splitlines()
         self.rank = self.certificate.rank
 
-    def lines(self, head=None, top=None, count=None, rows=None, end=None):
+    def lines(self, head=None, top=None, count=None, entries=None, end=None):
         """The lines, with some in the place of others."""
-        rows = self.rows if rows is None else rows
-        return [head or self.head, top or self.top, count or self.count, *rows, *([self.end] if end is None else end)]
+        entries = self.entries if entries is None else entries
+        return [head or self.head, top or self.top, count or self.count, *entries, *([self.end] if end is None else end)]
 
-    def listing(self, rows, off=0):
-        """The lines with these rows, counted; the count may be off by some."""
-        return self.lines(count=f"rows {len(rows) + off}", rows=rows)
+    def listing(self, entries, off=0):
+        """The lines with these entries, counted; the count may be off by some."""
+        return self.lines(count=f"rows {len(entries) + off}", entries=entries)
 
     def place(self):
-        return self.draw.randrange(len(self.rows))
+        return self.draw.randrange(len(self.entries))
 
     # ---- lines
 
-    def row_left_out(self):
+    def entry_left_out(self):
         at = self.place()
-        return self.listing(self.rows[:at] + self.rows[at + 1 :], self.draw.choice([0, 0, 1]))
+        return self.listing(self.entries[:at] + self.entries[at + 1 :], self.draw.choice([0, 0, 1]))
 
-    def row_twice(self):
+    def entry_twice(self):
         at = self.place()
-        return self.listing(self.rows[: at + 1] + self.rows[at:], self.draw.choice([0, 0, -1]))
+        return self.listing(self.entries[: at + 1] + self.entries[at:], self.draw.choice([0, 0, -1]))
 
-    def two_rows_exchanged(self):
-        at, rows = self.draw.randrange(max(1, len(self.rows) - 1)), list(self.rows)
-        rows[at : at + 2] = rows[at : at + 2][::-1]
-        return self.listing(rows)
+    def two_entries_exchanged(self):
+        at, entries = self.draw.randrange(max(1, len(self.entries) - 1)), list(self.entries)
+        entries[at : at + 2] = entries[at : at + 2][::-1]
+        return self.listing(entries)
 
     def count_off(self):
-        return self.listing(self.rows, self.draw.choice([-1, 1, -len(self.rows), 4096]))
+        return self.listing(self.entries, self.draw.choice([-1, 1, -len(self.entries), 4096]))
 
     def behind_the_end(self):
         return self.lines(end=["end", self.draw.choice(["end", "x", " ", "", "e:1"])])
@@ -285,7 +285,7 @@ class Spoiler:
             word + word[-1:] * 2,
             word + [self.draw.randint(1, self.rank)],
             [self.draw.randint(1, self.rank) for _ in word],
-            self.draw.choice(self.certificate.rows)[0],
+            self.draw.choice(self.certificate.entries)[0],
             word * 40,
         ]
         return self.lines(top=f"element {word_text(self.rank, self.draw.choice(others))}")
@@ -295,14 +295,14 @@ class Spoiler:
         others = ["", word + ".", "0" + word, word + " ", "1.1", "01", "e" + word, f"{self.rank + 1}", word + ".0", "1..1", "E"]
         return self.lines(top="element " + self.draw.choice(others))
 
-    # ---- rows
+    # ---- entries
 
     def changed(self, change, at=None):
-        """The lines with another word and polynomial in a row."""
-        rows = list(self.rows)
+        """The lines with another word and polynomial in an entry."""
+        entries = list(self.entries)
         at = self.place() if at is None else at
-        rows[at] = change(*rows[at].split(":"))
-        return self.listing(rows)
+        entries[at] = change(*entries[at].split(":"))
+        return self.listing(entries)
 
     def coefficient(self):
         """Another coefficient: one more or less, another sign, or a large one."""
@@ -329,15 +329,15 @@ class Spoiler:
     def top_degree(self):
         """A term just beyond the degree bound, or at it."""
         at = self.place()
-        distance = len(self.certificate.top) - len(self.certificate.rows[at][0])
+        distance = len(self.certificate.top) - len(self.certificate.entries[at][0])
         degree = max(2, (distance - 1) // 2 + self.draw.choice([0, 1]))
         return self.changed(lambda word, polynomial: f"{word}:{polynomial}+q^{degree}", at)
 
     def polynomials_exchanged(self):
-        rows, i, j = list(self.rows), self.place(), self.place()
-        (x, p), (y, r) = rows[i].split(":"), rows[j].split(":")
-        rows[i], rows[j] = f"{x}:{r}", f"{y}:{p}"
-        return self.listing(rows)
+        entries, i, j = list(self.entries), self.place(), self.place()
+        (x, p), (y, r) = entries[i].split(":"), entries[j].split(":")
+        entries[i], entries[j] = f"{x}:{r}", f"{y}:{p}"
+        return self.listing(entries)
 
     def other_polynomial(self):
         new = self.draw.choice(["0", "q", "1+q", "-1", "2", "1-q", "1+q^2"])
@@ -361,13 +361,13 @@ class Spoiler:
     def other_word(self):
         """Another word in the place of one, as far as it goes."""
         at = self.place()
-        word = list(self.certificate.rows[at][0])
+        word = list(self.certificate.entries[at][0])
         some = [self.draw.randint(1, self.rank) for _ in word]
         other = self.draw.choice([word[::-1], word + word, some, word * 20, word[1:], [self.rank + 1], word + [0]])
         return self.changed(lambda _, polynomial: f"{word_text(self.rank, other)}:{polynomial}", at)
 
     def two_causes(self):
-        """A large coefficient, and two rows exchanged, a row left out, or no normal form."""
+        """A large coefficient, and two entries exchanged, an entry left out, or no normal form."""
         lines = self.coefficient()
         at = self.draw.randrange(3, len(lines) - 1)
         if self.draw.random() < 0.5:
@@ -440,7 +440,7 @@ def large_ones(checker, name, text):
         for new, number in ((f"{word}:2", ROW), (f"{word}:1-q", ROW), (f"{word}:2147483648", SIZE), (f"{word}:01", GRAMMAR)):
             changed = [*lines[:at], new, *lines[at + 1 :]]
             yield f"{new} in {name}", checked(checker, "\n".join(changed).encode()), answer(number)
-    for way, number in (("two_rows_exchanged", INTERVAL), ("row_twice", None), ("row_left_out", None), ("no_end", GRAMMAR)):
+    for way, number in (("two_entries_exchanged", INTERVAL), ("entry_twice", None), ("entry_left_out", None), ("no_end", GRAMMAR)):
         changed = getattr(spoiler, way)()
         right = changed[2] == f"rows {len(changed) - 4}" and len(changed) - 4 <= 4096
         yield f"{way} in {name}", checked(checker, "\n".join(changed).encode()), answer(number or (INTERVAL if right else GRAMMAR))

@@ -17,7 +17,7 @@ from answers import polynomial_text, terms_of, word_text
 from definitions import ENTRIES, Matrices, Part
 
 # Of the grammar.
-MOST_RANK, MOST_LETTERS, MOST_ROWS, MOST_OF_LINE, MOST_OF_INPUT = 16, 255, 4096, 4096, 16_777_216
+MOST_RANK, MOST_LETTERS, MOST_ENTRIES, MOST_OF_LINE, MOST_OF_INPUT = 16, 255, 4096, 4096, 16_777_216
 # Of what is checked.
 MOST_LENGTH, MOST_DEGREE, MOST_COEFFICIENT = 39, 39, 2**31 - 1
 GRAMMAR, TOP, INTERVAL, SIZE, ROW = range(1, 6)
@@ -29,19 +29,19 @@ TERM = re.compile(r"([+-]?)([0-9]*)(q?)(?:\^([0-9]+))?")
 
 
 class Certificate(NamedTuple):
-    """A group by its rank and its labels above the diagonal, a word, and words with a polynomial each."""
+    """A group by its rank and its labels above the diagonal, a word, and the entries: words with a polynomial each."""
 
     rank: int
     labels: tuple
     top: tuple
-    rows: tuple
+    entries: tuple
 
     def lines(self):
         """The lines of its text."""
         yield matrix_line(self.rank, self.labels)
         yield f"element {word_text(self.rank, self.top)}"
-        yield f"rows {len(self.rows)}"
-        for word, polynomial in self.rows:
+        yield f"rows {len(self.entries)}"
+        for word, polynomial in self.entries:
             yield f"{word_text(self.rank, word)}:{polynomial_text(polynomial)}"
         yield "end"
 
@@ -68,12 +68,12 @@ def read(text):
         rank, *labels = map(number, lines[0].split(" ")[1:])
         top = read_word(rank, lines[1][len("element ") :])
         pairs = [line.partition(":")[::2] for line in lines[3:-1]]
-        rows = tuple((read_word(rank, word), read_polynomial(polynomial)) for word, polynomial in pairs)
+        entries = tuple((read_word(rank, word), read_polynomial(polynomial)) for word, polynomial in pairs)
     except (IndexError, ValueError):
         return None
-    found = Certificate(rank, tuple(labels), top, rows)
+    found = Certificate(rank, tuple(labels), top, entries)
     right = 1 <= rank <= MOST_RANK and len(labels) == rank * (rank - 1) // 2 and all(it in ENTRIES for it in labels)
-    right = right and 1 <= len(rows) <= MOST_ROWS and all(len(line) <= MOST_OF_LINE for line in lines)
+    right = right and 1 <= len(entries) <= MOST_ENTRIES and all(len(line) <= MOST_OF_LINE for line in lines)
     return found if right and list(found.lines()) == lines else None
 
 
@@ -128,13 +128,13 @@ def cause(text):
         return GRAMMAR
     if len(found.top) > MOST_LENGTH or Matrices(found.rank, found.labels).normal_form(found.top) != found.top:
         return TOP
-    part = below(found.rank, found.labels, found.top, len(found.rows))
-    if part is None or part.words != [word for word, _ in found.rows]:
+    part = below(found.rank, found.labels, found.top, len(found.entries))
+    if part is None or part.words != [word for word, _ in found.entries]:
         return INTERVAL
-    if any(degree > MOST_DEGREE or abs(c) > MOST_COEFFICIENT for _, terms in found.rows for degree, c in terms):
+    if any(degree > MOST_DEGREE or abs(c) > MOST_COEFFICIENT for _, terms in found.entries for degree, c in terms):
         return SIZE
     row = part.row(part.size - 1)
-    return 0 if all(terms == terms_of(row[x]) for x, (_, terms) in enumerate(found.rows)) else ROW
+    return 0 if all(terms == terms_of(row[x]) for x, (_, terms) in enumerate(found.entries)) else ROW
 
 
 def answer(number):

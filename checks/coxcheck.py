@@ -239,7 +239,7 @@ def product(rank):
     return rank, (2,) * (rank * (rank - 1) // 2), words
 
 
-def rows_of_one(rank):
+def entries_of_one(rank):
     """The certificate of that element, whose polynomials are 1."""
     rank, labels, words = product(rank)
     return Certificate(rank, labels, words[-1], tuple((word, ((0, 1),)) for word in words))
@@ -282,23 +282,23 @@ def limits():
 
 
 def rank16(element, label="0"):
-    """Two rows over the group of rank 16 whose labels are all this one."""
+    """Two entries over the group of rank 16 whose labels are all this one."""
     return ["cert 16" + f" {label}" * 120, f"element {element}", "rows 2", "e:1", "1:1", "end"]
 
 
-def many_rows():
-    good = rows_of_one(12)
+def many_entries():
+    good = entries_of_one(12)
     text = good.text().encode()
     lines = good.text().splitlines()
-    judged("4,096 rows", text, 0)
-    judged("4,096 rows, the last one 2", joined([*lines[:-2], lines[-2][:-1] + "2", "end"]), 5, known=False)
-    judged("4,096 rows that repeat", joined(["cert 2 3", "element 12", "rows 4096", *["e:1"] * 4096, "end"]), 3)
-    judged("4,097 rows", joined(["cert 2 3", "element 12", "rows 4097", *["e:1"] * 4097, "end"]), 1)
-    judged("4,097 rows for 4,096", joined(["cert 2 3", "element 12", "rows 4096", *["e:1"] * 4097, "end"]), 1)
-    judged("4,096 rows, exchanged", joined([*lines[:-3], lines[-2], lines[-3], "end"]), 3, known=False)
-    large = rows_of_one(13)
-    first = large._replace(rows=large.rows[:4096]).text().encode()
-    judged("the first 4,096 of 8,192 rows", first, 3, known=False)
+    judged("4,096 entries", text, 0)
+    judged("4,096 entries, the last one 2", joined([*lines[:-2], lines[-2][:-1] + "2", "end"]), 5, known=False)
+    judged("4,096 entries that repeat", joined(["cert 2 3", "element 12", "rows 4096", *["e:1"] * 4096, "end"]), 3)
+    judged("4,097 entries", joined(["cert 2 3", "element 12", "rows 4097", *["e:1"] * 4097, "end"]), 1)
+    judged("4,097 entries for 4,096", joined(["cert 2 3", "element 12", "rows 4096", *["e:1"] * 4097, "end"]), 1)
+    judged("4,096 entries, exchanged", joined([*lines[:-3], lines[-2], lines[-3], "end"]), 3, known=False)
+    large = entries_of_one(13)
+    first = large._replace(entries=large.entries[:4096]).text().encode()
+    judged("the first 4,096 of 8,192 entries", first, 3, known=False)
     # Elements with very many others below them: the interval is left where it has too many.
     letters = [1 + k * 7 % 16 for k in range(39)]
     for label in ("0", "3", "6"):
@@ -315,8 +315,8 @@ def many_rows():
 
 
 def large_texts():
-    """Texts of exactly the most bytes, and of one more: the rows are right, and their coefficients have up to 4,000 digits."""
-    *head, end = [*rows_of_one(12).lines()]
+    """Texts of exactly the most bytes, and of one more: the entries are right, and their coefficients have up to 4,000 digits."""
+    *head, end = [*entries_of_one(12).lines()]
     head, lines = head[:3], head[3:]
     # Lines of 4,096 bytes would be somewhat too much.
     over, rows = len(joined([*head, end])) + 4097 * len(lines) - MOST_OF_INPUT, []
@@ -449,7 +449,7 @@ def pipes():
 
 def memory():
     """With less and less memory there is the answer, or status 5 and no text."""
-    for what, text, wanted in (("4,096 rows", rows_of_one(12).text().encode(), answer(0)), ("A 3", joined(a3()), answer(0))):
+    for what, text, wanted in (("4,096 entries", entries_of_one(12).text().encode(), answer(0)), ("A 3", joined(a3()), answer(0))):
         ends = {YES: 0, NO_MEMORY: 0}
         for kibibytes in [*range(1024, 4096, 128), *range(4096, 80 << 10, 4096), 256 << 10]:
 
@@ -474,7 +474,7 @@ def memory():
         faults.refusals(COUNT, runs, "arguments", b"", ["x"], (USAGE, USAGE_LINE, b""), some=False)
 
 
-PARTS = (causes, grammar, limits, many_rows, large_texts, arguments, read_faults, write_faults, pipes, memory)
+PARTS = (causes, grammar, limits, many_entries, large_texts, arguments, read_faults, write_faults, pipes, memory)
 for part in [it for it in PARTS if it.__name__ in (sys.argv[2:] or [it.__name__])]:
     begun = time.monotonic()
     part()

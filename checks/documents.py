@@ -59,7 +59,7 @@ SAID = [
         "docs/COXCHECK.md",
         "| coefficients | {} in absolute value |",
         "cox_certtext",
-        "MAX_COEFFICIENT",
+        "MAX_CHECKED_COEFFICIENT",
     ),
     ("docs/COXCHECK.md", "| bytes of the input | {} |", "cox_outside", "INPUT_LIMIT"),
     ("docs/PROVED.md", "At status 6 the same of the first {} bytes", "cox_outside", "INPUT_LIMIT"),

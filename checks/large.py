@@ -13,7 +13,7 @@ for each thread too, and has to end by status 0 with the whole answer:
 - `work` over 1,000,000 words; intervals of 645,120 and 967,680 members; an answer of more than 20
   MB; the W-graph of a group of 103,680 elements; two intervals of more than 5,000 elements in one
   session; the module of a left cell of 90 elements; R of 39 letters; inverse polynomials Q(z,w) of
-  252 elements z; a certificate of 4,096 rows with polynomials other than 1, and its check.
+  252 elements z; a certificate of 4,096 entries with polynomials other than 1, and its check.
 - Each command in D 5, and in a list of jobs, with 1, 2, 4 and 16 workers.
 
 What is expected is counted by the degrees of the groups (Humphreys, "Reflection Groups and Coxeter
@@ -268,7 +268,7 @@ def certificates(built, checker):
     w = [1, 2, 3, 2, 1, 4, 2]
     row = four.row(four.element(w)).values()
     lines = answer(
-        "a certificate of 4,096 rows", built, f"{group}cert {text(w + [5, 6, 7, 8, 9, 10], 10)}\n",
+        "a certificate of 4,096 entries", built, f"{group}cert {text(w + [5, 6, 7, 8, 9, 10], 10)}\n",
     )
     rows = [line.split(":")[1] for line in lines if ":" in line]
     wanted = sorted(polynomial_text(terms_of(p)) for p in row for _ in range(64))

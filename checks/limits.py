@@ -40,7 +40,7 @@ LIMITS = [
     ("cox_options/src/options.rt", "MAX_COEF", program.OPTIONS["coef"][1]),
     ("cox_certtext/src/limits.rt", "MAX_LISTED", certificates.MOST_OF_CERTIFICATE),
     ("cox_certtext/src/limits.rt", "MAX_DEGREE", certificates.MOST_OF_LETTERS),
-    ("cox_certtext/src/limits.rt", "MAX_COEFFICIENT", certificates.MOST_OF_COEFFICIENT),
+    ("cox_certtext/src/limits.rt", "MAX_CHECKED_COEFFICIENT", certificates.MOST_OF_COEFFICIENT),
 ]
 
 # The number of a refusal or of an exit status, and the limits that its text has to name.

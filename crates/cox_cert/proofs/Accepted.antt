@@ -17,9 +17,9 @@ use Rattle.cox_outside.specs.Unbroken.{IsUnbroken}
 use Rattle.cox_outside.specs.declared.limits.TheConstants.{LINE_LIMIT, INPUT_LIMIT}
 use Rattle.cox_outside.proofs.Lines.{lines_of-line}
 use Rattle.cox_certtext.specs.declared.limits.TheConstants.{MAX_LISTED}
-use Rattle.cox_rowcheck.specs.SmallPolynomials.{IsSmall}
-use Rattle.cox_certtext.specs.Certificate.{Certificate, IsShortWord, IsCertificate, IsLine, Gives, row_line, end_line, matrix_line}
-use Rattle.cox_certtext.specs.Certificate.{count_line, top_line, certificate_lines, certificate_text, contents, polynomials_of}
+use Rattle.cox_rowcheck.specs.CheckablePolynomials.{IsCheckable}
+use Rattle.cox_certtext.specs.Certificate.{Certificate, IsShortWord, IsCertificate, IsTextEntry, Gives, entry_line, end_line, matrix_line}
+use Rattle.cox_certtext.specs.Certificate.{count_line, top_line, certificate_lines, certificate_text, contents, polynomials_of_entries}
 use Rattle.cox_cert.specs.Causes.{HasSmall}
 use Rattle.cox_certtext.specs.CertificateParts.{labels_text}
 use Rattle.cox_cert.proofs.PlainTexts.{IsPlainText, AreNot-at, plain-append, plain-more, plain-flat_map, decimal-plain}
@@ -128,41 +128,43 @@ count_line-plain n few =
     (plain-append 5 4 (codes "rows ") (decimal n) (record { size = omega arith; plain = (refl, (refl, (refl, (refl, (refl, tt))))) })
     (decimal-plain 4 n (omega arith) (omega arith) (omega arith)))
 
-row_line-plain : (rank : ℕ) (row : List ℕ × List ℤ) → rank ≤ MAX_RANK → IsLine rank row → IsSmall row.1
-    → IsPlainText most_bytes (row_line rank row)
-row_line-plain rank row limit is small =
-    plain-more 1728 most_bytes (row_line rank row) (omega arith)
-    (plain-append 767 961 (word_text rank row.0 ++ codes ":") (polynomial_text row.1)
-    (plain-append 766 1 (word_text rank row.0) (codes ":") (short_word-plain rank row.0 limit is.word)
+entry_line-plain : (rank : ℕ) (entry : List ℕ × List ℤ) → rank ≤ MAX_RANK → IsTextEntry rank entry → IsCheckable entry.1
+    → IsPlainText most_bytes (entry_line rank entry)
+entry_line-plain rank entry limit is small =
+    plain-more 1728 most_bytes (entry_line rank entry) (omega arith)
+    (plain-append 767 961 (word_text rank entry.0 ++ codes ":") (polynomial_text entry.1)
+    (plain-append 766 1 (word_text rank entry.0) (codes ":") (short_word-plain rank entry.0 limit is.word)
     (record { size = omega arith; plain = (refl, tt) }))
-    (polynomial_text-plain row.1 is.polynomial small))
+    (polynomial_text-plain entry.1 is.polynomial small))
 
-rows-plain : (rank : ℕ) (rows : List (List ℕ × List ℤ)) → rank ≤ MAX_RANK → All (IsLine rank) rows → All IsSmall (polynomials_of rows)
-    → All (IsPlainText most_bytes) (map (row_line rank) rows)
-rows-plain rank [] limit are small = All-nil (IsPlainText most_bytes)
-rows-plain rank (row ∷ rows) limit are small =
-    All-cons (IsPlainText most_bytes) (row_line rank row) (map (row_line rank) rows)
-    (row_line-plain rank row limit (All-head (IsLine rank) row rows are) (All-head IsSmall row.1 (polynomials_of rows) small))
-    (rows-plain rank rows limit (All-tail (IsLine rank) row rows are) (All-tail IsSmall row.1 (polynomials_of rows) small))
+entries-plain : (rank : ℕ) (entries : List (List ℕ × List ℤ)) → rank ≤ MAX_RANK → All (IsTextEntry rank) entries
+    → All IsCheckable (polynomials_of_entries entries) → All (IsPlainText most_bytes) (map (entry_line rank) entries)
+entries-plain rank [] limit are small = All-nil (IsPlainText most_bytes)
+entries-plain rank (entry ∷ entries) limit are small =
+    All-cons (IsPlainText most_bytes) (entry_line rank entry) (map (entry_line rank) entries)
+    (entry_line-plain rank entry limit (All-head (IsTextEntry rank) entry entries are)
+    (All-head IsCheckable entry.1 (polynomials_of_entries entries) small))
+    (entries-plain rank entries limit (All-tail (IsTextEntry rank) entry entries are)
+    (All-tail IsCheckable entry.1 (polynomials_of_entries entries) small))
 
 pub end_line-plain : IsPlainText most_bytes end_line
 end_line-plain = record { size = omega arith; plain = (refl, (refl, (refl, tt))) }
 
 -- the lines behind the first
 abbrev later_lines : Certificate → List (List ℕ)
-later_lines c = (top_line c.matrix.rank c.top ∷ count_line (length c.rows) ∷ map (row_line c.matrix.rank) c.rows) ++ end_line ∷ []
+later_lines c = (top_line c.matrix.rank c.top ∷ count_line (length c.entries) ∷ map (entry_line c.matrix.rank) c.entries) ++ end_line ∷ []
 
 certificate_lines-plain : (c : Certificate) → IsCertificate c → HasSmall c → All (IsPlainText most_bytes) (certificate_lines c)
 certificate_lines-plain c is small =
     let P = IsPlainText most_bytes in
     let rank = c.matrix.rank in
-    let rows = map (row_line rank) c.rows in
-    let count = count_line (length c.rows) in
+    let entries = map (entry_line rank) c.entries in
+    let count = count_line (length c.entries) in
     let top = top_line rank c.top in
-    All-append P (matrix_line c.matrix ∷ top ∷ count ∷ rows) (end_line ∷ [])
-    (All-cons P (matrix_line c.matrix) (top ∷ count ∷ rows) (matrix_line-plain c.matrix is.matrix is.rank)
-    (All-cons P top (count ∷ rows) (top_line-plain rank c.top is.rank is.top)
-    (All-cons P count rows (count_line-plain (length c.rows) is.few) (rows-plain rank c.rows is.rank is.rows small))))
+    All-append P (matrix_line c.matrix ∷ top ∷ count ∷ entries) (end_line ∷ [])
+    (All-cons P (matrix_line c.matrix) (top ∷ count ∷ entries) (matrix_line-plain c.matrix is.matrix is.rank)
+    (All-cons P top (count ∷ entries) (top_line-plain rank c.top is.rank is.top)
+    (All-cons P count entries (count_line-plain (length c.entries) is.few) (entries-plain rank c.entries is.rank is.entries small))))
     (All-cons P end_line [] end_line-plain (All-nil P))
 
 -- a certificate is read as it is written
@@ -192,10 +194,10 @@ certificate_text-gives c is small =
 -- and its text is within the limit of a check
 pub certificate_text-within : (c : Certificate) → IsCertificate c → HasSmall c → length (certificate_text c ++ line_feed ∷ []) ≤ INPUT_LIMIT
 certificate_text-within c is small =
-    let rows = map (row_line c.matrix.rank) c.rows in
+    let entries = map (entry_line c.matrix.rank) c.entries in
     let same = ap length (joined-ended (matrix_line c.matrix) (later_lines c)) in
     let size = ended-size most_bytes (certificate_lines c) (certificate_lines-plain c is small) in
-    let front = matrix_line c.matrix ∷ top_line c.matrix.rank c.top ∷ count_line (length c.rows) ∷ rows in
-    let count : length (certificate_lines c) ≡ 4 + length c.rows
-    = omega (arith, length-append front (end_line ∷ []), length-map c.rows (row_line c.matrix.rank)) in
+    let front = matrix_line c.matrix ∷ top_line c.matrix.rank c.top ∷ count_line (length c.entries) ∷ entries in
+    let count : length (certificate_lines c) ≡ 4 + length c.entries
+    = omega (arith, length-append front (end_line ∷ []), length-map c.entries (entry_line c.matrix.rank)) in
     omega (arith, same, size, count, is.few)

@@ -24,7 +24,7 @@ use Rattle.cox_certtext.specs.Certificate.{Certificate, Gives, contents}
 use Rattle.cox_cert.specs.Causes.{IsFirstCause}
 use Rattle.cox_cert.specs.Checks.{ReadsAll, ReadsWithin}
 use Rattle.cox_cert.specs.Drafts.{IsForm, BeginsNone, HasAll}
-use Rattle.cox_cert.specs.Collected.{TakesFitting, TakesNone, TakesForeign, Steps, Gathers}
+use Rattle.cox_cert.specs.Collected.{TakesFitting, TakesNone, TakesForeign, TakesOrHalts, Gathers}
 use Rattle.cox_cert.proofs.TakenContents.{HasHalted, HasTaken, HasTaken-one, HasTaken-none, HasTaken-end, HasTaken-append, budget-smaller}
 use Rattle.cox_cert.proofs.FirstLines.{none-long, none-byte}
 use Rattle.cox_cert.proofs.TakenContents.{contents-whole, contents-all, within-budget, IsAtEnd-left}
@@ -54,7 +54,7 @@ ended lines before old now new t m =
 
 -- one more line was taken, or the input has ended
 pub Progress-step : (form next : Form) (before after : Option Stop) (old now new : Ahead) → Progress form before old now
-    → Steps (Ok next) form after now new → Progress next after old new
+    → TakesOrHalts (Ok next) form after now new → Progress next after old new
 Progress-step form next before after old now new p s =
     ⊎_elim
     (λ (t : TakesFitting form next after now new). record {
@@ -72,7 +72,7 @@ Progress-step form next before after old now new p s =
     }) s
 
 -- fewer bytes may be handed out, or the reader has stopped
-pub step-smaller : (form next : Form) (after : Option Stop) (now new : Ahead) → Steps (Ok next) form after now new
+pub step-smaller : (form next : Form) (after : Option Stop) (now new : Ahead) → TakesOrHalts (Ok next) form after now new
     → new.budget + cond (is_some after) 0 1 < now.budget + 1
 step-smaller form next after now new s =
     ⊎_elim
@@ -217,7 +217,7 @@ module _ (text left : Option (List ℕ)) (old new : Ahead) (pending : List ℕ)
 
   -- the reading halted
   pub gathers-halted : (why : Halt) (form : Form) (before after : Option Stop) (now : Ahead) → Progress form before old now
-      → Steps (Err why) form after now new → Gathers (Err why) text left × ReadsWithin text left
+      → TakesOrHalts (Err why) form after now new → Gathers (Err why) text left × ReadsWithin text left
   gathers-halted halt.Foreign form before after now p s =
       let all = HasTaken-append p.lines (content_of s.line ∷ []) before after old now new p.taken
       (HasTaken-one after s.line now new s.takes)

@@ -9,8 +9,8 @@ use Rattle.cox_base.specs.Matrix.{CoxeterMatrix}
 use Rattle.cox_outside.specs.Line.{is_foreign}
 use Rattle.cox_outside.specs.declared.limits.TheConstants.{LINE_LIMIT}
 use Rattle.cox_certtext.specs.declared.limits.TheConstants.{MAX_LISTED}
-use Rattle.cox_certtext.specs.Certificate.{Certificate, IsShortWord, IsLine, IsCertificate, Gives}
-use Rattle.cox_certtext.specs.Certificate.{matrix_line, top_line, count_line, row_line, end_line, certificate_lines}
+use Rattle.cox_certtext.specs.Certificate.{Certificate, IsShortWord, IsTextEntry, IsCertificate, Gives}
+use Rattle.cox_certtext.specs.Certificate.{matrix_line, top_line, count_line, entry_line, end_line, certificate_lines}
 use Rattle.cox_cert.specs.Drafts.{IsGroup, BeginsNone}
 use Rattle.cox_cert.proofs.MatrixLines.{matrix_line-one}
 use Rattle.cox_polyread.proofs.Splits.{AreNot}
@@ -33,54 +33,56 @@ none-top g line is none rest c gives =
     none c.top (subst (λ (h : CoxeterMatrix). IsShortWord h.rank c.top) same gives.is.top)
     (subst (λ (h : CoxeterMatrix). line ≡ top_line h.rank c.top) same e)
 
--- the line behind so many rows is the next row's ..
-row-there : (rank : ℕ) (lines : List (List ℕ)) (line : List ℕ) (rest : List (List ℕ)) (rows : List (List ℕ × List ℤ)) (last : List ℕ)
-    → (lines ++ line ∷ []) ++ rest ≡ map (row_line rank) rows ++ last ∷ [] → length lines < length rows → All (IsLine rank) rows
-    → (row : List ℕ × List ℤ) × IsLine rank row × (line ≡ row_line rank row)
-row-there rank lines line rest [] last e less all = absurd (omega arith)
-row-there rank [] line rest (row ∷ rows) last e less all = (row, All-head (IsLine rank) row rows all, cc e)
-row-there rank (first ∷ lines) line rest (row ∷ rows) last e less all =
-    row-there rank lines line rest rows last (cc e) (omega arith) (All-tail (IsLine rank) row rows all)
+-- the line behind so many entries is the next entry's ..
+entry-there : (rank : ℕ) (lines : List (List ℕ)) (line : List ℕ) (rest : List (List ℕ)) (entries : List (List ℕ × List ℤ)) (last : List ℕ)
+    → (lines ++ line ∷ []) ++ rest ≡ map (entry_line rank) entries ++ last ∷ [] → length lines < length entries
+    → All (IsTextEntry rank) entries
+    → (entry : List ℕ × List ℤ) × IsTextEntry rank entry × (line ≡ entry_line rank entry)
+entry-there rank lines line rest [] last e less all = absurd (omega arith)
+entry-there rank [] line rest (entry ∷ entries) last e less all = (entry, All-head (IsTextEntry rank) entry entries all, cc e)
+entry-there rank (first ∷ lines) line rest (entry ∷ entries) last e less all =
+    entry-there rank lines line rest entries last (cc e) (omega arith) (All-tail (IsTextEntry rank) entry entries all)
 
 -- .. or the last line, behind all of them
-end-there : (rank : ℕ) (lines : List (List ℕ)) (line : List ℕ) (rest : List (List ℕ)) (rows : List (List ℕ × List ℤ)) (last : List ℕ)
-    → (lines ++ line ∷ []) ++ rest ≡ map (row_line rank) rows ++ last ∷ [] → length lines ≡ length rows → line ≡ last
+end-there : (rank : ℕ) (lines : List (List ℕ)) (line : List ℕ) (rest : List (List ℕ)) (entries : List (List ℕ × List ℤ)) (last : List ℕ)
+    → (lines ++ line ∷ []) ++ rest ≡ map (entry_line rank) entries ++ last ∷ [] → length lines ≡ length entries → line ≡ last
 end-there rank [] line rest [] last e same = cc e
-end-there rank [] line rest (row ∷ rows) last e same = absurd (omega arith)
+end-there rank [] line rest (entry ∷ entries) last e same = absurd (omega arith)
 end-there rank (first ∷ lines) line rest [] last e same = absurd (omega arith)
-end-there rank (first ∷ lines) line rest (row ∷ rows) last e same = end-there rank lines line rest rows last (cc e) (omega arith)
+end-there rank (first ∷ lines) line rest (entry ∷ entries) last e same = end-there rank lines line rest entries last (cc e) (omega arith)
 
--- no line of a row, where one has to stand
-pub none-row : (g : CoxeterMatrix) (second : List ℕ) (n : ℕ) (lines : List (List ℕ)) (line : List ℕ) → IsGroup g → n ≤ MAX_LISTED
+-- no line of an entry, where one has to stand
+pub none-entry : (g : CoxeterMatrix) (second : List ℕ) (n : ℕ) (lines : List (List ℕ)) (line : List ℕ) → IsGroup g → n ≤ MAX_LISTED
     → length lines < n
-    → ((row : List ℕ × List ℤ) → IsLine g.rank row → line ≢ row_line g.rank row)
+    → ((entry : List ℕ × List ℤ) → IsTextEntry g.rank entry → line ≢ entry_line g.rank entry)
     → BeginsNone ((matrix_line g ∷ second ∷ count_line n ∷ lines) ++ line ∷ [])
-none-row g second n lines line is few less none rest c gives =
+none-entry g second n lines line is few less none rest c gives =
     let same : c.matrix ≡ g = same-matrix g c is gives.is (cc gives.written) in
-    let size : length c.rows ≡ n = count_line-one (length c.rows) n gives.is.few few (cc gives.written) in
-    let behind : (lines ++ line ∷ []) ++ rest ≡ map (row_line c.matrix.rank) c.rows ++ end_line ∷ [] = cc gives.written in
-    let found = row-there c.matrix.rank lines line rest c.rows end_line behind (omega arith) gives.is.rows in
-    none found.0 (subst (λ (h : CoxeterMatrix). IsLine h.rank found.0) same found.1)
-    (subst (λ (h : CoxeterMatrix). line ≡ row_line h.rank found.0) same found.2)
+    let size : length c.entries ≡ n = count_line-one (length c.entries) n gives.is.few few (cc gives.written) in
+    let behind : (lines ++ line ∷ []) ++ rest ≡ map (entry_line c.matrix.rank) c.entries ++ end_line ∷ [] = cc gives.written in
+    let found = entry-there c.matrix.rank lines line rest c.entries end_line behind (omega arith) gives.is.entries in
+    none found.0 (subst (λ (h : CoxeterMatrix). IsTextEntry h.rank found.0) same found.1)
+    (subst (λ (h : CoxeterMatrix). line ≡ entry_line h.rank found.0) same found.2)
 
 -- not the last line, where that has to stand
 pub none-end : (first second : List ℕ) (n : ℕ) (lines : List (List ℕ)) (line : List ℕ) → n ≤ MAX_LISTED → length lines ≡ n
     → line ≢ end_line
     → BeginsNone ((first ∷ second ∷ count_line n ∷ lines) ++ line ∷ [])
 none-end first second n lines line few full none rest c gives =
-    let size : length c.rows ≡ n = count_line-one (length c.rows) n gives.is.few few (cc gives.written) in
-    let behind : (lines ++ line ∷ []) ++ rest ≡ map (row_line c.matrix.rank) c.rows ++ end_line ∷ [] = cc gives.written in
-    none (end-there c.matrix.rank lines line rest c.rows end_line behind (omega arith))
+    let size : length c.entries ≡ n = count_line-one (length c.entries) n gives.is.few few (cc gives.written) in
+    let behind : (lines ++ line ∷ []) ++ rest ≡ map (entry_line c.matrix.rank) c.entries ++ end_line ∷ [] = cc gives.written in
+    none (end-there c.matrix.rank lines line rest c.entries end_line behind (omega arith))
 
 -- the number of the lines of a certificate
-pub lines-count : (c : Certificate) → length (certificate_lines c) ≡ 4 + length c.rows
+pub lines-count : (c : Certificate) → length (certificate_lines c) ≡ 4 + length c.entries
 lines-count c =
-    omega (arith, length-append (map (row_line c.matrix.rank) c.rows) (end_line ∷ []), length-map c.rows (row_line c.matrix.rank))
+    omega (arith, length-append (map (entry_line c.matrix.rank) c.entries) (end_line ∷ []), length-map c.entries (entry_line c.matrix.rank))
 
 -- nothing stands behind the last line
 pub none-behind : (d : Certificate) (line : List ℕ) → IsCertificate d → BeginsNone (certificate_lines d ++ line ∷ [])
 none-behind d line is rest c gives =
-    let size : length d.rows ≡ length c.rows = count_line-one (length d.rows) (length c.rows) is.few gives.is.few (cc gives.written) in
+    let size : length d.entries ≡ length c.entries
+    = count_line-one (length d.entries) (length c.entries) is.few gives.is.few (cc gives.written) in
     omega (
       arith,
       lines-count c,
@@ -92,11 +94,11 @@ none-behind d line is rest c gives =
 
 -- ---- too few lines
 
--- those up to one of the rows
-pub unfinished-rows : (first second : List ℕ) (n : ℕ) (lines : List (List ℕ)) (c : Certificate) → n ≤ MAX_LISTED → length lines ≤ n
+-- those up to one of the entries
+pub unfinished-entries : (first second : List ℕ) (n : ℕ) (lines : List (List ℕ)) (c : Certificate) → n ≤ MAX_LISTED → length lines ≤ n
     → ¬ Gives (first ∷ second ∷ count_line n ∷ lines) c
-unfinished-rows first second n lines c limit few gives =
-    let size : n ≡ length c.rows = count_line-one n (length c.rows) limit gives.is.few (cc gives.written) in
+unfinished-entries first second n lines c limit few gives =
+    let size : n ≡ length c.entries = count_line-one n (length c.entries) limit gives.is.few (cc gives.written) in
     omega (arith, lines-count c, ap length gives.written)
 
 -- ---- lines that are never a certificate's

@@ -10,18 +10,18 @@ use Rattle.cox_base.specs.Members.{IsInInterval}
 use Rattle.cox_base.specs.SortedList.{IsListOf}
 use Rattle.cox_rpoly.specs.declared.TheConstants.{MAX_DIFFERENCE}
 use Rattle.cox_rowcheck.specs.ListedRows.{AreRow}
-use Rattle.cox_rowcheck.specs.SmallPolynomials.{IsSmall}
+use Rattle.cox_rowcheck.specs.CheckablePolynomials.{IsCheckable}
 use Rattle.cox_certtext.specs.declared.limits.TheConstants.{MAX_LISTED}
 use Rattle.cox_cert.specs.declared.draft.Draft.{Draft}
-use Rattle.cox_certtext.specs.Certificate.{Certificate, words_of, polynomials_of}
+use Rattle.cox_certtext.specs.Certificate.{Certificate, words_of_entries, polynomials_of_entries}
 use Rattle.cox_cert.specs.Causes.{HasTop, HasInterval, HasRow}
 use Rattle.cox_cert.specs.Drafts.{IsDraftOf, letters_of}
-use Rattle.cox_cert.specs.Judgements.{HasCertificate, IsTop, IsInterval, IsRow}
+use Rattle.cox_cert.specs.Judgements.{HasCertificate, StatesTop, StatesInterval, StatesRow}
 use Rattle.cox_base.specs.Admissible.{IsCoxeterMatrix, IsAdmissible}
 use Rattle.cox_reflect.proofs.Admissible.{IsAdmissible-integer_matrix}
 use Rattle.cox_context.specs.Numbers.{word_at}
 use Rattle.cox_cert.proofs.LastMember.{last-word, some-words}
-use Rattle.cox_cert.proofs.NextLines.{rows-size}
+use Rattle.cox_cert.proofs.NextLines.{entries-size}
 
 -- ---- what the parts of a draft are
 
@@ -31,52 +31,52 @@ draft-letters draft h =
     (subst (λ w. IsWord h.certificate.matrix.rank w) h.parts.top h.is.top.letters)
 
 pub draft-few : (draft : Draft) → HasCertificate draft → length draft.words.items ≤ MAX_LISTED
-draft-few draft h = omega (arith, rows-size draft h.certificate h.parts, h.is.few)
+draft-few draft h = omega (arith, entries-size draft h.certificate h.parts, h.is.few)
 
-pub draft-small : (draft : Draft) → HasCertificate draft → draft.large ≡ false → All IsSmall draft.polynomials.items
-draft-small draft h e = subst (λ l. All IsSmall l) (h.parts.polynomials e) (h.parts.small e)
+pub draft-small : (draft : Draft) → HasCertificate draft → draft.large ≡ false → All IsCheckable draft.polynomials.items
+draft-small draft h e = subst (λ l. All IsCheckable l) (h.parts.polynomials e) (h.parts.small e)
 
 pub draft-count : (draft : Draft) → HasCertificate draft → draft.large ≡ false
     → length draft.polynomials.items ≡ length (letters_of draft.words.items)
 draft-count draft h e =
-    sym (ap length (h.parts.polynomials e)) ∙ length-map h.certificate.rows (λ (row : List ℕ × List ℤ). row.1)
-    ∙ sym (length-map h.certificate.rows (λ (row : List ℕ × List ℤ). row.0)) ∙ ap length h.parts.words
+    sym (ap length (h.parts.polynomials e)) ∙ length-map h.certificate.entries (λ (entry : List ℕ × List ℤ). entry.1)
+    ∙ sym (length-map h.certificate.entries (λ (entry : List ℕ × List ℤ). entry.0)) ∙ ap length h.parts.words
 
 -- ---- the conditions, by these parts
 
 module _ (draft : Draft) (c : Certificate) (parts : IsDraftOf draft c) where
   -- the certificate's parts are the draft's, in any fact of them
   of_parts : (P : CoxeterMatrix → List ℕ → List (List ℕ) → Type 0) → P draft.group draft.top.items (letters_of draft.words.items)
-      → P c.matrix c.top (words_of c.rows)
+      → P c.matrix c.top (words_of_entries c.entries)
   of_parts P h = rw (parts.matrix, parts.top, parts.words) h
 
-  to_parts : (P : CoxeterMatrix → List ℕ → List (List ℕ) → Type 0) → P c.matrix c.top (words_of c.rows)
+  to_parts : (P : CoxeterMatrix → List ℕ → List (List ℕ) → Type 0) → P c.matrix c.top (words_of_entries c.entries)
       → P draft.group draft.top.items (letters_of draft.words.items)
   to_parts P h = rw (← parts.matrix, ← parts.top, ← parts.words) h
 
-  pub top-is : IsTop draft → HasTop c
+  pub top-is : StatesTop draft → HasTop c
   top-is h =
       let both = of_parts (λ g w words. (normal_form (integer_matrix g) w ≡ w) × (length w ≤ MAX_DIFFERENCE)) (h.normal, h.short) in
       record { normal = both.0; short = both.1 }
 
-  pub interval-is : IsInterval draft → HasInterval c
+  pub interval-is : StatesInterval draft → HasInterval c
   interval-is h = of_parts (λ g w words. IsListOf (IsInInterval (integer_matrix g) w) words) h
 
-  pub row-is : draft.large ≡ false → IsRow draft → HasRow c
+  pub row-is : draft.large ≡ false → StatesRow draft → HasRow c
   row-is e h =
       let own = subst (λ l. AreRow (integer_matrix draft.group) draft.top.items (letters_of draft.words.items) l)
       (sym (parts.polynomials e)) h in
-      of_parts (λ g w words. AreRow (integer_matrix g) w words (polynomials_of c.rows)) own
+      of_parts (λ g w words. AreRow (integer_matrix g) w words (polynomials_of_entries c.entries)) own
 
-  pub row-of : draft.large ≡ false → HasRow c → IsRow draft
+  pub row-of : draft.large ≡ false → HasRow c → StatesRow draft
   row-of e h =
       subst (λ l. AreRow (integer_matrix draft.group) draft.top.items (letters_of draft.words.items) l) (parts.polynomials e)
-      (to_parts (λ g w words. AreRow (integer_matrix g) w words (polynomials_of c.rows)) h)
+      (to_parts (λ g w words. AreRow (integer_matrix g) w words (polynomials_of_entries c.entries)) h)
 
 -- ---- the last member
 
 -- the members of the interval of a draft, of which the last is the element
-module _ (draft : Draft) (certificate : HasCertificate draft) (top : IsTop draft) (interval : IsInterval draft) where
+module _ (draft : Draft) (certificate : HasCertificate draft) (top : StatesTop draft) (interval : StatesInterval draft) where
   admissible : IsAdmissible (integer_matrix draft.group)
   admissible = IsAdmissible-integer_matrix draft.group
       (subst IsCoxeterMatrix certificate.parts.matrix certificate.is.matrix)
@@ -115,7 +115,7 @@ module _ (draft : Draft) (certificate : HasCertificate draft) (top : IsTop draft
         omega (arith, ap length same, draft-few draft certificate, length-map draft.words.items (λ (word : ArrayVec ℕ). word.items))
 
     pub row-decided : (polynomials : List (List ℤ)) (answer : Bool) → polynomials ≡ draft.polynomials.items
-        → IsTrue answer ↔ AreRow (integer_matrix g) (word_at members (n - 1)) members polynomials → IsTrue answer ↔ IsRow draft
+        → IsTrue answer ↔ AreRow (integer_matrix g) (word_at members (n - 1)) members polynomials → IsTrue answer ↔ StatesRow draft
     row-decided polynomials answer are decides =
         subst (λ (h : CoxeterMatrix). IsTrue answer ↔ AreRow (integer_matrix h) draft.top.items (letters_of draft.words.items)
         draft.polynomials.items) matrix

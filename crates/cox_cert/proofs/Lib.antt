@@ -8,13 +8,13 @@ pub mod Decimals
 pub mod WordLines
 -- the line of a matrix
 pub mod MatrixLines
--- the line of a row
-pub mod RowLines
+-- the line of an entry
+pub mod EntryLines
 -- the text of a small polynomial
 pub mod PolynomialLines
 -- lines are those of one certificate
 pub mod Certificates
--- a text has one verdict
+-- a text has at most one verdict
 pub mod Verdicts
 -- the text of a certificate gives its lines
 pub mod Accepted

@@ -16,7 +16,7 @@ use Rattle.cox_poly.specs.PolynomialText.{power_text, factor_text, term_text, pl
 use Rattle.cox_polyread.proofs.Splits.{AreNot, AreNot-append}
 use Rattle.cox_outside.specs.Line.{is_foreign}
 use Rattle.cox_certtext.specs.declared.limits.TheConstants.{MAX_LISTED}
-use Rattle.cox_certtext.specs.Certificate.{Certificate, IsCertificate, IsLine, matrix_line, top_line, count_line, row_line, end_line}
+use Rattle.cox_certtext.specs.Certificate.{Certificate, IsCertificate, IsTextEntry, matrix_line, top_line, count_line, entry_line, end_line}
 use Rattle.cox_certtext.specs.Certificate.{certificate_lines}
 use Rattle.cox_cert.proofs.Accepted.{matrix_line-plain, top_line-plain, count_line-plain, end_line-plain, short_word-plain}
 
@@ -85,33 +85,34 @@ polynomial-plain p = terms-plain (terms p)
 
 -- ---- the lines
 
-row-plain : (rank : ℕ) → rank ≤ MAX_RANK → (row : List ℕ × List ℤ) → IsLine rank row → IsPlain (row_line rank row)
-row-plain rank limit row is =
-    AreNot-append is_foreign (word_text rank row.0 ++ codes ":") (polynomial_text row.1)
-    (AreNot-append is_foreign (word_text rank row.0) (codes ":") (short_word-plain rank row.0 limit is.word).plain (refl, tt))
-    (polynomial-plain row.1)
+entry-plain : (rank : ℕ) → rank ≤ MAX_RANK → (entry : List ℕ × List ℤ) → IsTextEntry rank entry → IsPlain (entry_line rank entry)
+entry-plain rank limit entry is =
+    AreNot-append is_foreign (word_text rank entry.0 ++ codes ":") (polynomial_text entry.1)
+    (AreNot-append is_foreign (word_text rank entry.0) (codes ":") (short_word-plain rank entry.0 limit is.word).plain (refl, tt))
+    (polynomial-plain entry.1)
 
-rows-plain : (rank : ℕ) → rank ≤ MAX_RANK → (rows : List (List ℕ × List ℤ)) → All (IsLine rank) rows
-    → All IsPlain (map (row_line rank) rows)
-rows-plain rank limit [] all = All-nil IsPlain
-rows-plain rank limit (row ∷ rows) all =
-    All-cons IsPlain (row_line rank row) (map (row_line rank) rows) (row-plain rank limit row (All-head (IsLine rank) row rows all))
-    (rows-plain rank limit rows (All-tail (IsLine rank) row rows all))
+entries-plain : (rank : ℕ) → rank ≤ MAX_RANK → (entries : List (List ℕ × List ℤ)) → All (IsTextEntry rank) entries
+    → All IsPlain (map (entry_line rank) entries)
+entries-plain rank limit [] all = All-nil IsPlain
+entries-plain rank limit (entry ∷ entries) all =
+    All-cons IsPlain (entry_line rank entry) (map (entry_line rank) entries)
+    (entry-plain rank limit entry (All-head (IsTextEntry rank) entry entries all))
+    (entries-plain rank limit entries (All-tail (IsTextEntry rank) entry entries all))
 
 -- no line of a certificate has a byte that no line may have
 pub lines-plain : (c : Certificate) → IsCertificate c → All (λ line. AreNot is_foreign line) (certificate_lines c)
 lines-plain c is =
     let rank = c.matrix.rank in
-    let rows = map (row_line rank) c.rows in
-    let count = count_line (length c.rows) in
+    let entries = map (entry_line rank) c.entries in
+    let count = count_line (length c.entries) in
     let top = top_line rank c.top in
-    All-append IsPlain (matrix_line c.matrix ∷ top ∷ count ∷ rows) (end_line ∷ [])
-    (All-cons IsPlain (matrix_line c.matrix) (top ∷ count ∷ rows) (matrix_line-plain c.matrix is.matrix is.rank).plain
-    (All-cons IsPlain top (count ∷ rows) (top_line-plain rank c.top is.rank is.top).plain
-    (All-cons IsPlain count rows (count_line-plain (length c.rows) is.few).plain (rows-plain rank is.rank c.rows is.rows))))
+    All-append IsPlain (matrix_line c.matrix ∷ top ∷ count ∷ entries) (end_line ∷ [])
+    (All-cons IsPlain (matrix_line c.matrix) (top ∷ count ∷ entries) (matrix_line-plain c.matrix is.matrix is.rank).plain
+    (All-cons IsPlain top (count ∷ entries) (top_line-plain rank c.top is.rank is.top).plain
+    (All-cons IsPlain count entries (count_line-plain (length c.entries) is.few).plain (entries-plain rank is.rank c.entries is.entries))))
     (All-cons IsPlain end_line [] end_line-plain.plain (All-nil IsPlain))
 
--- a line is that of one number of rows
+-- a line is that of one number of entries
 pub count_line-one : (n m : ℕ) → n ≤ MAX_LISTED → m ≤ MAX_LISTED → count_line n ≡ count_line m → n ≡ m
 count_line-one n m n_few m_few same =
     decimal_injective n m (omega arith) (omega arith) (append_cancel_left (codes "rows ") (decimal n) (decimal m) same)

@@ -11,7 +11,7 @@ use Rattle.cox_poly.specs.PolynomialText.{power_text, factor_text, plus_text, te
 use Rattle.cox_poly.proofs.Numerals.{number_text-decimal}
 use Rattle.cox_poly.proofs.Terms.{terms_from}
 use Rattle.cox_certtext.specs.declared.limits.TheConstants.{MAX_DEGREE}
-use Rattle.cox_rowcheck.specs.SmallPolynomials.{IsSmall}
+use Rattle.cox_rowcheck.specs.CheckablePolynomials.{IsCheckable}
 use Rattle.cox_cert.proofs.PlainTexts.{IsPlainText, plain-append, plain-more, plain-cond, decimal-plain, AreNot-behind}
 use Rattle.cox_outside.specs.Line.{is_foreign}
 
@@ -81,13 +81,13 @@ terms_text-plain most (t ∷ ts) is =
     }
 
 -- it has few terms
-small-length : (p : List ℤ) → IsPolynomial p → IsSmall p → length p ≤ MAX_DEGREE + 1
+small-length : (p : List ℤ) → IsPolynomial p → IsCheckable p → length p ≤ MAX_DEGREE + 1
 small-length p normal small = elim (cases_lt (MAX_DEGREE + 1) (length p)) [
   | inl long ↦ absurd (normal (omega arith) (small.degree (length p - 1) (omega arith)))
   | inr short ↦ short
 ]
 
-pub polynomial_text-plain : (p : List ℤ) → IsPolynomial p → IsSmall p → IsPlainText 961 (polynomial_text p)
+pub polynomial_text-plain : (p : List ℤ) → IsPolynomial p → IsCheckable p → IsPlainText 961 (polynomial_text p)
 polynomial_text-plain p normal small =
     let short = small-length p normal small in
     terms_text-plain 960 (terms_from 0 p)

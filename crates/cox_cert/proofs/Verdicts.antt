@@ -1,4 +1,4 @@
--- A text has one verdict: it is a proof, or one cause is the first.
+-- A text has at most one verdict: it is a proof, or one cause is the first.
 use Rattle.std.proofs.Common.{◌≡◌, ℕ, List, refl, subst}
 use Rattle.cox_cert.specs.declared.status.Cause.{Cause}
 use Rattle.cox_cert.specs.declared.status.Cause.TheVariants.{Grammar, Top, Interval, Size, Row}

@@ -6,10 +6,10 @@ use Rattle.cox_base.specs.Members.{IsInInterval}
 use Rattle.cox_base.specs.SortedList.{IsListOf}
 use Rattle.cox_rpoly.specs.declared.TheConstants.{MAX_DIFFERENCE}
 use Rattle.cox_rowcheck.specs.ListedRows.{AreRow}
-use Rattle.cox_rowcheck.specs.SmallPolynomials.{IsSmall}
+use Rattle.cox_rowcheck.specs.CheckablePolynomials.{IsCheckable}
 use Rattle.cox_cert.specs.declared.status.Cause.{Cause}
 use Rattle.cox_cert.specs.declared.status.Cause.TheVariants.{Grammar, Top, Interval, Size, Row}
-use Rattle.cox_certtext.specs.Certificate.{Certificate, Gives, words_of, polynomials_of}
+use Rattle.cox_certtext.specs.Certificate.{Certificate, Gives, words_of_entries, polynomials_of_entries}
 
 -- the element is given by its normal form, of at most MAX_DIFFERENCE letters
 pub record HasTop (c : Certificate) : Type 0 where
@@ -18,15 +18,15 @@ pub record HasTop (c : Certificate) : Type 0 where
 
 -- the words are the elements below it, in ShortLex order
 abbrev pub HasInterval : Certificate → Type 0
-HasInterval c = IsListOf (IsInInterval (integer_matrix c.matrix) c.top) (words_of c.rows)
+HasInterval c = IsListOf (IsInInterval (integer_matrix c.matrix) c.top) (words_of_entries c.entries)
 
 -- no coefficient and no degree is too large
 abbrev pub HasSmall : Certificate → Type 0
-HasSmall c = All IsSmall (polynomials_of c.rows)
+HasSmall c = All IsCheckable (polynomials_of_entries c.entries)
 
 -- the polynomials are the row of the element
 abbrev pub HasRow : Certificate → Type 0
-HasRow c = AreRow (integer_matrix c.matrix) c.top (words_of c.rows) (polynomials_of c.rows)
+HasRow c = AreRow (integer_matrix c.matrix) c.top (words_of_entries c.entries) (polynomials_of_entries c.entries)
 
 -- the first cause that applies: the lines are no certificate's, or they are, and it fails here and not before
 abbrev pub IsFirstCause : Cause → List (List ℕ) → Type 0

@@ -30,22 +30,22 @@ status_text Usage = codes "usage: coxcheck" ++ line_feed ∷ []
 status_text _ = []
 
 -- the number that the program ends with
-abbrev pub code_of : CheckStatus → ℕ
-code_of Yes = 0
-code_of (No cause) = 1
-code_of Usage = 2
-code_of ReadFault = 3
-code_of WriteFault = 4
-code_of NoMemory = 5
-code_of InputLimit = 6
+abbrev pub check_code_of : CheckStatus → ℕ
+check_code_of Yes = 0
+check_code_of (No cause) = 1
+check_code_of Usage = 2
+check_code_of ReadFault = 3
+check_code_of WriteFault = 4
+check_code_of NoMemory = 5
+check_code_of InputLimit = 6
 
-abbrev pub is_read_fault : CheckStatus → Bool
-is_read_fault ReadFault = true
-is_read_fault other = false
+abbrev pub is_check_read_fault : CheckStatus → Bool
+is_check_read_fault ReadFault = true
+is_check_read_fault other = false
 
-abbrev pub is_write_fault : CheckStatus → Bool
-is_write_fault WriteFault = true
-is_write_fault other = false
+abbrev pub is_check_write_fault : CheckStatus → Bool
+is_check_write_fault WriteFault = true
+is_check_write_fault other = false
 
 -- the text was read to its end, is within the limit, and its lines have the property
 abbrev pub ReadsAll : (List (List ℕ) → Type 0) → Option (List ℕ) → Option (List ℕ) → Type 0
@@ -65,15 +65,15 @@ words_behind arguments = drop 1 (map (λ argument. argument.now) arguments)
 
 -- With these words behind the program's name this status is due: it says what holds of the text, and it is Usage where there are words, and
 -- only there.
-pub record IsDue (status : CheckStatus) (words : List (List ℕ)) (text left : Option (List ℕ)) : Type 0 where
+pub record IsCheckDue (status : CheckStatus) (words : List (List ℕ)) (text left : Option (List ℕ)) : Type 0 where
   pub says : Says status text left
   pub usage : status ≡ Usage → words ≢ []
   pub usage_always : words ≢ [] → status ≡ Usage
 
 -- a prefix of what is due was written, and more was due than there was room for, if the sink tells its room
-pub record IsCutShort (words : List (List ℕ)) (text left : Option (List ℕ)) (old new : Outlet) : Type 0 where
+pub record IsCheckCutShort (words : List (List ℕ)) (text left : Option (List ℕ)) (old new : Outlet) : Type 0 where
   pub due : CheckStatus
-  pub is_due : IsDue due words text left
+  pub is_due : IsCheckDue due words text left
   pub some : status_text due ≢ []
   pub prefix : List ℕ
   pub is_prefix : IsPrefix prefix (status_text due)
@@ -91,9 +91,9 @@ pub record IsCheck (status : CheckStatus) (words : List (List ℕ)) (source left
   pub usage : status ≡ Usage → words ≢ []
   pub usage_always : words ≢ [] → (status ≡ Usage) ⊎ (status ≡ WriteFault)
   -- Faults come from outside, and each is told.
-  pub read_fault : SourceCause source left (is_read_fault status)
-  pub write_fault : SinkCause old new (is_write_fault status)
+  pub read_fault : SourceCause source left (is_check_read_fault status)
+  pub write_fault : SinkCause old new (is_check_write_fault status)
   -- The text of the status is written, or, where a write failed, a prefix of the text of the one that was due.
   pub writes : status ≢ WriteFault → Writes (status_text status) old new
-  pub cut : status ≡ WriteFault → IsCutShort words source.left left.left old new
+  pub cut : status ≡ WriteFault → IsCheckCutShort words source.left left.left old new
   pub within : ReadsWithin source.left left.left

@@ -50,12 +50,12 @@ pub record TakesForeign (form : Form) (halt : Option Stop) (old new : Ahead) : T
   pub foreign : (lines : List (List ℕ)) → IsForm form lines → BeginsNone (lines ++ content_of line ∷ [])
 
 -- what the taking of the next line did
-abbrev pub Steps : Result Form Halt → Form → Option Stop → Ahead → Ahead → Type 0
-Steps (Ok next) form halt old new = TakesFitting form next halt old new ⊎ TakesNone form next halt old new
-Steps (Err Foreign) form halt old new = TakesForeign form halt old new
-Steps (Err Failed) form halt old new = MeetsFault old new
-Steps (Err Limit) form halt old new = MeetsLimit old new
-Steps (Err NoMemory) form halt old new = (line : List ℕ) × TakesNext halt line old new
+abbrev pub TakesOrHalts : Result Form Halt → Form → Option Stop → Ahead → Ahead → Type 0
+TakesOrHalts (Ok next) form halt old new = TakesFitting form next halt old new ⊎ TakesNone form next halt old new
+TakesOrHalts (Err Foreign) form halt old new = TakesForeign form halt old new
+TakesOrHalts (Err Failed) form halt old new = MeetsFault old new
+TakesOrHalts (Err Limit) form halt old new = MeetsLimit old new
+TakesOrHalts (Err NoMemory) form halt old new = (line : List ℕ) × TakesNext halt line old new
 
 -- the text was read to its end, and has the lines of a certificate, whose parts these are
 pub record GivesAll (draft : Draft) (text left : Option (List ℕ)) : Type 0 where

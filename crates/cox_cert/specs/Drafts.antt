@@ -8,8 +8,9 @@ use Rattle.cox_certtext.specs.declared.limits.TheConstants.{MAX_LISTED}
 use Rattle.cox_cert.specs.declared.draft.Draft.{Draft}
 use Rattle.cox_cert.specs.declared.draft.Form.{Form}
 use Rattle.cox_cert.specs.declared.draft.Form.TheVariants as form
-use Rattle.cox_certtext.specs.Certificate.{Certificate, IsShortWord, IsLine, IsCertificate, Gives, words_of, polynomials_of}
-use Rattle.cox_certtext.specs.Certificate.{matrix_line, top_line, count_line, row_line, certificate_lines}
+use Rattle.cox_certtext.specs.Certificate.{Certificate, IsShortWord, IsTextEntry, IsCertificate, Gives}
+use Rattle.cox_certtext.specs.Certificate.{words_of_entries, polynomials_of_entries}
+use Rattle.cox_certtext.specs.Certificate.{matrix_line, top_line, count_line, entry_line, certificate_lines}
 use Rattle.cox_cert.specs.Causes.{HasSmall}
 
 -- the letters of words
@@ -20,10 +21,10 @@ letters_of words = map (λ word. word.items) words
 pub record IsDraftOf (draft : Draft) (c : Certificate) : Type 0 where
   pub matrix : c.matrix ≡ draft.group
   pub top : c.top ≡ draft.top.items
-  pub words : words_of c.rows ≡ letters_of draft.words.items
+  pub words : words_of_entries c.entries ≡ letters_of draft.words.items
   pub large : draft.large ≡ true → ¬ HasSmall c
   pub small : draft.large ≡ false → HasSmall c
-  pub polynomials : draft.large ≡ false → polynomials_of c.rows ≡ draft.polynomials.items
+  pub polynomials : draft.large ≡ false → polynomials_of_entries c.entries ≡ draft.polynomials.items
 
 -- a matrix that can be written
 pub record IsGroup (g : CoxeterMatrix) : Type 0 where
@@ -36,18 +37,18 @@ pub record HasHead (g : CoxeterMatrix) (top : List ℕ) (lines : List (List ℕ)
   pub word : IsShortWord g.rank top
   pub written : lines ≡ matrix_line g ∷ top_line g.rank top ∷ []
 
--- the lines of a certificate of so many rows, up to one of the rows: the certificate here is of the rows so far
-pub record HasRows (draft : Draft) (lines : List (List ℕ)) : Type 0 where
+-- the lines of a certificate of so many entries, up to one of the entries: the certificate here is of the entries so far
+pub record HasEntries (draft : Draft) (lines : List (List ℕ)) : Type 0 where
   pub certificate : Certificate
   pub parts : IsDraftOf draft certificate
   pub group : IsGroup certificate.matrix
   pub word : IsShortWord certificate.matrix.rank certificate.top
-  pub rows : All (IsLine certificate.matrix.rank) certificate.rows
+  pub entries : All (IsTextEntry certificate.matrix.rank) certificate.entries
   pub some : 1 ≤ draft.count
   pub few : draft.count ≤ MAX_LISTED
-  pub within : length certificate.rows ≤ draft.count
+  pub within : length certificate.entries ≤ draft.count
   pub written : lines ≡ matrix_line certificate.matrix ∷ top_line certificate.matrix.rank certificate.top ∷ count_line draft.count
-      ∷ map (row_line certificate.matrix.rank) certificate.rows
+      ∷ map (entry_line certificate.matrix.rank) certificate.entries
 
 -- all lines of a certificate
 pub record HasAll (draft : Draft) (lines : List (List ℕ)) : Type 0 where
@@ -61,7 +62,7 @@ abbrev pub IsForm : Form → List (List ℕ) → Type 0
 IsForm form.Start lines = lines ≡ []
 IsForm (form.Matrix g) lines = IsGroup g × (lines ≡ matrix_line g ∷ [])
 IsForm (form.Top g top) lines = HasHead g top.items lines
-IsForm (form.Rows draft) lines = HasRows draft lines
+IsForm (form.Entries draft) lines = HasEntries draft lines
 IsForm (form.Ended draft) lines = HasAll draft lines
 
 -- no certificate has these lines first

@@ -22,17 +22,17 @@ pub record HasCertificate (draft : Draft) : Type 0 where
   pub parts : IsDraftOf draft certificate
 
 -- the conditions, by the parts: the element is given by its normal form, of at most MAX_DIFFERENCE letters ..
-pub record IsTop (draft : Draft) : Type 0 where
+pub record StatesTop (draft : Draft) : Type 0 where
   pub normal : normal_form (integer_matrix draft.group) draft.top.items ≡ draft.top.items
   pub short : length draft.top.items ≤ MAX_DIFFERENCE
 
 -- .. the words are the elements below it, in ShortLex order ..
-abbrev pub IsInterval : Draft → Type 0
-IsInterval draft = IsListOf (IsInInterval (integer_matrix draft.group) draft.top.items) (letters_of draft.words.items)
+abbrev pub StatesInterval : Draft → Type 0
+StatesInterval draft = IsListOf (IsInInterval (integer_matrix draft.group) draft.top.items) (letters_of draft.words.items)
 
 -- .. and the polynomials are its row
-abbrev pub IsRow : Draft → Type 0
-IsRow draft = AreRow (integer_matrix draft.group) draft.top.items (letters_of draft.words.items) draft.polynomials.items
+abbrev pub StatesRow : Draft → Type 0
+StatesRow draft = AreRow (integer_matrix draft.group) draft.top.items (letters_of draft.words.items) draft.polynomials.items
 
 -- the first cause that applies to a certificate, if one does
 abbrev pub IsFirst : Option Cause → Certificate → Type 0

@@ -3,7 +3,7 @@ use Rattle.std.specs.Prelude.{◌≡◌, ◌≢◌, ◌<◌, ℕ, List, [], leng
 use Rattle.cox_outside.specs.Outlet.{Outlet, Writes, SinkCause, IsPrefix}
 use Rattle.cox_cert.specs.declared.status.CheckStatus.{CheckStatus}
 use Rattle.cox_cert.specs.declared.status.CheckStatus.TheVariants.{Usage, WriteFault}
-use Rattle.cox_cert.specs.Checks.{Says, status_text, is_write_fault}
+use Rattle.cox_cert.specs.Checks.{Says, status_text, is_check_write_fault}
 
 -- it does not tell that a write failed
 abbrev pub IsTold : CheckStatus → Type 0
@@ -28,4 +28,4 @@ pub record Tells (status due : CheckStatus) (old new : Outlet) : Type 0 where
   pub same : status ≢ WriteFault → status ≡ due
   pub writes : status ≢ WriteFault → Writes (status_text due) old new
   pub cut : status ≡ WriteFault → IsCut (status_text due) old new
-  pub cause : SinkCause old new (is_write_fault status)
+  pub cause : SinkCause old new (is_check_write_fault status)

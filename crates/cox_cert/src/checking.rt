@@ -1,7 +1,7 @@
 //! The whole check.
 ghost use Rattle.std.specs.Prelude.{◌≡◌, ◌<◌, length};
 ghost use Rattle.cox_outside.specs.Supply.{SourceCause};
-ghost use Rattle.cox_cert.specs.Checks.{IsCheck, IsDue, ReadsWithin, is_read_fault, words_behind};
+ghost use Rattle.cox_cert.specs.Checks.{IsCheck, IsCheckDue, ReadsWithin, is_check_read_fault, words_behind};
 ghost use Rattle.cox_cert.specs.Verdicts.{IsVerdict, IsTold, Tells};
 
 use crate::collecting::collect;
@@ -30,10 +30,10 @@ pub fn check<S: Source, K: Sink>(
 
 /// The status that is due, before anything is written.
 fn due<S: Source>(alloc: Global, words: &[&str], source: &mut S) -> CheckStatus
-    ensures due { IsDue result (words_behind words.now) (S.seen source.old).left (S.seen source.new).left }
+    ensures due { IsCheckDue result (words_behind words.now) (S.seen source.old).left (S.seen source.new).left }
     ensures told { IsTold result }
     ensures within { ReadsWithin (S.seen source.old).left (S.seen source.new).left }
-    ensures cause { SourceCause (S.seen source.old) (S.seen source.new) (is_read_fault result) }
+    ensures cause { SourceCause (S.seen source.old) (S.seen source.new) (is_check_read_fault result) }
     ensures unread { 1 < length words.now → source.new ≡ source.old }
 {
     if words.len() > 1 {
@@ -46,7 +46,7 @@ fn due<S: Source>(alloc: Global, words: &[&str], source: &mut S) -> CheckStatus
 fn verdict<S: Source>(alloc: Global, source: &mut S) -> CheckStatus
     ensures is { IsVerdict result (S.seen source.old).left (S.seen source.new).left }
     ensures within { ReadsWithin (S.seen source.old).left (S.seen source.new).left }
-    ensures cause { SourceCause (S.seen source.old) (S.seen source.new) (is_read_fault result) }
+    ensures cause { SourceCause (S.seen source.old) (S.seen source.new) (is_check_read_fault result) }
 {
     let Ok(mut reader) = LineReader::new(alloc) else {
         return CheckStatus::NoMemory;

@@ -4,7 +4,7 @@ ghost use Rattle.cox_outside.specs.Ahead.{ahead};
 ghost use Rattle.cox_outside.specs.Reader.{fresh_reader};
 ghost use Rattle.cox_outside.specs.Supply.{SourceCause};
 ghost use Rattle.cox_cert.specs.Checks.{ReadsWithin};
-ghost use Rattle.cox_cert.specs.Collected.{Steps, Gathers, has_failed, status_of};
+ghost use Rattle.cox_cert.specs.Collected.{TakesOrHalts, Gathers, has_failed, status_of};
 
 use crate::draft::{Draft, Form, finished, take};
 use crate::status::{Cause, CheckStatus};
@@ -70,7 +70,7 @@ fn take_next<S: Source>(
     source: &mut S,
 ) -> Result<Form, Halt>
     requires { reader.old.stop ≡ None }
-    ensures steps { Steps result form reader.new.stop (ahead reader.old.feed (S.seen source.old).left)
+    ensures steps { TakesOrHalts result form reader.new.stop (ahead reader.old.feed (S.seen source.old).left)
         (ahead reader.new.feed (S.seen source.new).left) }
     ensures cause { SourceCause (S.seen source.old) (S.seen source.new) (has_failed result) }
 {

@@ -4,7 +4,7 @@ ghost use Rattle.cox_outside.specs.declared.limits.TheConstants.{LINE_LIMIT};
 ghost use Rattle.cox_cert.specs.Drafts.{IsForm, Forms, Finishes};
 
 use crate::matrix_reading::read_matrix;
-use crate::reading::{RowLine, is_end, read_count, read_row, read_top};
+use crate::reading::{EntryLine, is_end, read_count, read_entry, read_top};
 use cox_base::{Coxeter, Word};
 use cox_poly::Poly;
 use std::alloc::{AllocError, Global};
@@ -16,13 +16,13 @@ pub(crate) struct Draft {
     pub(crate) group: Coxeter,
     /// The element, as it was written.
     pub(crate) top: Word,
-    /// How many rows there are to be.
+    /// How many entries there are to be.
     pub(crate) count: u32,
-    /// The words of the rows, in the order of the lines.
+    /// The words of the entries, in the order of the lines.
     pub(crate) words: Vec<Word>,
     /// Whether one of the polynomials is too large.
     pub(crate) large: bool,
-    /// The polynomials of the rows in the same order, if none is too large.
+    /// The polynomials of the entries in the same order, if none is too large.
     pub(crate) polynomials: Vec<Poly>,
 }
 
@@ -35,8 +35,8 @@ pub(crate) enum Form {
     Matrix(Coxeter),
     /// The last line was that of the element.
     Top(Coxeter, Word),
-    /// The last line was that of the number of rows, or one of the rows.
-    Rows(Draft),
+    /// The last line was that of the number of entries, or that of an entry.
+    Entries(Draft),
     /// The last line was `end`.
     Ended(Draft),
 }
@@ -50,7 +50,7 @@ pub(crate) fn take(alloc: Global, form: Form, line: &[u8]) -> Result<Option<Form
         Form::Start => Ok(take_matrix(line)),
         Form::Matrix(group) => Ok(take_top(group, line)),
         Form::Top(group, top) => take_count(alloc, group, top, line),
-        Form::Rows(draft) => take_behind(alloc, draft, line),
+        Form::Entries(draft) => take_behind(alloc, draft, line),
         Form::Ended(_) => Ok(None),
     }
 }
@@ -76,7 +76,7 @@ fn take_top(group: Coxeter, line: &[u8]) -> Option<Form>
     }
 }
 
-/// The line of the number of rows.
+/// The line of the number of entries.
 fn take_count(
     alloc: Global,
     group: Coxeter,
@@ -96,34 +96,34 @@ fn take_count(
         large: false,
         polynomials: Vec::with_capacity(alloc, count as usize)?,
     };
-    Ok(Some(Form::Rows(draft)))
+    Ok(Some(Form::Entries(draft)))
 }
 
-/// A line behind that of the number of rows: a row, or `end`.
+/// A line behind that of the number of entries: an entry, or `end`.
 fn take_behind(alloc: Global, draft: Draft, line: &[u8]) -> Result<Option<Form>, AllocError>
     requires { length line.now ≤ LINE_LIMIT }
-    ensures { IfOk result (λ next. (lines : List (List ℕ)) → IsForm (Form.Rows draft) lines → Forms next (lines ++ line.now ∷ [])) }
+    ensures { IfOk result (λ next. (lines : List (List ℕ)) → IsForm (Form.Entries draft) lines → Forms next (lines ++ line.now ∷ [])) }
 {
     if draft.words.len() < draft.count as usize {
-        return take_row(alloc, draft, line);
+        return take_entry(alloc, draft, line);
     }
     Ok(take_end(draft, line))
 }
 
-/// The line of a row.
-fn take_row(alloc: Global, draft: Draft, line: &[u8]) -> Result<Option<Form>, AllocError>
+/// The line of an entry.
+fn take_entry(alloc: Global, draft: Draft, line: &[u8]) -> Result<Option<Form>, AllocError>
     requires size { length line.now ≤ LINE_LIMIT }
     requires room { vec_len draft.words < draft.count }
-    ensures { IfOk result (λ next. (lines : List (List ℕ)) → IsForm (Form.Rows draft) lines → Forms next (lines ++ line.now ∷ [])) }
+    ensures { IfOk result (λ next. (lines : List (List ℕ)) → IsForm (Form.Entries draft) lines → Forms next (lines ++ line.now ∷ [])) }
 {
-    match read_row(alloc, line, draft.group.rank())? {
-        RowLine::Small(word, p) => Ok(Some(Form::Rows(with_small(draft, word, p)?))),
-        RowLine::Large(word) => Ok(Some(Form::Rows(with_large(draft, word)?))),
-        RowLine::Foreign => Ok(None),
+    match read_entry(alloc, line, draft.group.rank())? {
+        EntryLine::Small(word, p) => Ok(Some(Form::Entries(with_small(draft, word, p)?))),
+        EntryLine::Large(word) => Ok(Some(Form::Entries(with_large(draft, word)?))),
+        EntryLine::Foreign => Ok(None),
     }
 }
 
-/// The draft with one row more.
+/// The draft with one entry more.
 fn with_small(mut draft: Draft, word: Word, p: Poly) -> Result<Draft, AllocError>
     ensures group { IfOk result (λ next. next.group ≡ draft.group) }
     ensures top { IfOk result (λ next. next.top ≡ draft.top) }
@@ -137,7 +137,7 @@ fn with_small(mut draft: Draft, word: Word, p: Poly) -> Result<Draft, AllocError
     Ok(draft)
 }
 
-/// The draft with one row more, whose polynomial is too large.
+/// The draft with one entry more, whose polynomial is too large.
 fn with_large(mut draft: Draft, word: Word) -> Result<Draft, AllocError>
     ensures group { IfOk result (λ next. next.group ≡ draft.group) }
     ensures top { IfOk result (λ next. next.top ≡ draft.top) }
@@ -153,7 +153,7 @@ fn with_large(mut draft: Draft, word: Word) -> Result<Draft, AllocError>
 /// The line `end`.
 fn take_end(draft: Draft, line: &[u8]) -> Option<Form>
     requires full { draft.count ≤ vec_len draft.words }
-    ensures { (lines : List (List ℕ)) → IsForm (Form.Rows draft) lines → Forms result (lines ++ line.now ∷ []) }
+    ensures { (lines : List (List ℕ)) → IsForm (Form.Entries draft) lines → Forms result (lines ++ line.now ∷ []) }
 {
     if is_end(line) {
         Some(Form::Ended(draft))
@@ -171,6 +171,6 @@ pub(crate) fn finished(form: Form) -> Option<Draft>
         Form::Start => None,
         Form::Matrix(_) => None,
         Form::Top(_, _) => None,
-        Form::Rows(_) => None,
+        Form::Entries(_) => None,
     }
 }

@@ -2,7 +2,7 @@
 ghost use Rattle.std.specs.Prelude.{◌≡◌, ◌↔◌, false, IsTrue, IfOk, IfSome, MatchOption};
 ghost use Rattle.cox_certtext.specs.Certificate.{Certificate, IsCertificate};
 ghost use Rattle.cox_cert.specs.Drafts.{IsDraftOf, letters_of};
-ghost use Rattle.cox_cert.specs.Judgements.{IsTop, IsInterval, IsRow, IsFirst, IsJudged, HasCertificate};
+ghost use Rattle.cox_cert.specs.Judgements.{StatesTop, StatesInterval, StatesRow, IsFirst, IsJudged, HasCertificate};
 
 use crate::draft::Draft;
 use crate::status::{Cause, CheckStatus};
@@ -56,7 +56,7 @@ fn same_word(left: &Word, right: &Word) -> bool
 /// Whether the element is given by its normal form, of at most [`MAX_DIFFERENCE`] letters.
 fn has_top(draft: &Draft) -> bool
     requires { HasCertificate draft.now }
-    ensures { IsTrue result ↔ IsTop draft.now }
+    ensures { IsTrue result ↔ StatesTop draft.now }
 {
     if draft.top.len() > MAX_DIFFERENCE {
         return false;
@@ -64,13 +64,13 @@ fn has_top(draft: &Draft) -> bool
     same_word(&normal_form(&draft.group, &draft.top), &draft.top)
 }
 
-/// The elements below the element, if the words of the rows are these, in ShortLex order.
+/// The elements below the element, if the words of the entries are these, in ShortLex order.
 fn interval_of(alloc: Global, draft: &Draft) -> Result<Option<Context>, AllocError>
     requires certificate { HasCertificate draft.now }
-    requires top { IsTop draft.now }
+    requires top { StatesTop draft.now }
     ensures context { IfOk result (λ found. IfSome found (λ context. (context.matrix ≡ draft.now.group)
         × (context.members ≡ letters_of draft.now.words.items))) }
-    ensures interval { IfOk result (λ found. MatchOption found (¬ IsInterval draft.now) (λ _. IsInterval draft.now)) }
+    ensures interval { IfOk result (λ found. MatchOption found (¬ StatesInterval draft.now) (λ _. StatesInterval draft.now)) }
 {
     let _rank = draft.group.rank();
     match Context::of_short_interval(alloc, &draft.group, &draft.top, MAX_LISTED as u32) {
@@ -105,12 +105,12 @@ fn has_members(context: &Context, words: &[Word]) -> bool
 /// Whether the polynomials are the row of the element. The members are those below it, and it is the last.
 fn has_row(alloc: Global, draft: &Draft, context: &Context) -> Result<bool, AllocError>
     requires certificate { HasCertificate draft.now }
-    requires top { IsTop draft.now }
-    requires interval { IsInterval draft.now }
+    requires top { StatesTop draft.now }
+    requires interval { StatesInterval draft.now }
     requires small { draft.now.large ≡ false }
     requires matrix { context.now.matrix ≡ draft.now.group }
     requires members { context.now.members ≡ letters_of draft.now.words.items }
-    ensures { IfOk result (λ answer. IsTrue answer ↔ IsRow draft.now) }
+    ensures { IfOk result (λ answer. IsTrue answer ↔ StatesRow draft.now) }
 {
     let last = context.len() - 1;
     is_row(alloc, context, last, draft.polynomials.as_slice())

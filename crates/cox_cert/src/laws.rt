@@ -12,7 +12,7 @@ ghost use Rattle.cox_cert.specs.Unhindered.{Rose, IsUnhindered};
 use crate::status::{Cause, CheckStatus};
 
 /// Lines are those of one certificate at most. A certificate that states the row of its element is accepted, as it is written. Each text
-/// has one verdict at most.
+/// has at most one verdict.
 pub fn certificates()
     ensures one { (lines : List (List ℕ)) (c d : Certificate) → Gives lines c → Gives lines d → c ≡ d }
     ensures accepted { (c : Certificate) → IsCertificate c → HasTop c → HasInterval c → HasSmall c → HasRow c

@@ -2,7 +2,7 @@
 //! lines of text; `cox_certtext` says which lines.
 //!
 //! - `status`: how a check ends
-//! - `reading`: reads the lines after the first: the element, the number of rows, the rows, the end
+//! - `reading`: reads the lines after the first: the element, the number of entries, the entries, the end
 //! - `matrix_reading`: reads the first line
 //! - `parts`: what stands in a line: a fixed text, a byte, a number, a word
 //! - `draft`: a certificate, as far as its lines are read

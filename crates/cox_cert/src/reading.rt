@@ -1,7 +1,7 @@
 //! The lines of a certificate behind the first, read. Each line is that of one thing at most.
 ghost use Rattle.std.specs.Prelude.{◌≡◌, ◌≢◌, ◌≤◌, ◌<◌, ◌↔◌, ℕ, List, length, IsTrue, IfSome, IfNone, IfOk};
 ghost use Rattle.cox_certtext.specs.Certificate.{IsShortWord, top_line, count_line, end_line};
-ghost use Rattle.cox_cert.specs.LineReading.{ReadsPolynomial, ReadsRow};
+ghost use Rattle.cox_cert.specs.LineReading.{ReadsPolynomial, ReadsEntry};
 
 use crate::parts::{behind, cut, read_decimal, read_letters};
 use cox_base::{MAX_RANK, Word};
@@ -9,17 +9,17 @@ use cox_certtext::{MAX_DEGREE, MAX_LISTED};
 use cox_outside::LINE_LIMIT;
 use cox_poly::Poly;
 use cox_polyread::{TextFault, read_polynomial};
-use cox_rowcheck::is_small;
+use cox_rowcheck::is_checkable;
 use std::alloc::{AllocError, Global};
 
 /// What a line of the list gives.
 #[derive(Drop)]
-pub(crate) enum RowLine {
+pub(crate) enum EntryLine {
     /// A word, and a polynomial that is small.
     Small(Word, Poly),
     /// A word, and a polynomial with a coefficient or a degree that is too large.
     Large(Word),
-    /// Nothing: no row is written so.
+    /// Nothing: no entry is written so.
     Foreign,
 }
 
@@ -49,29 +49,29 @@ pub(crate) fn read_count(line: &[u8]) -> Option<u32>
 /// The word and the polynomial that a line of the list gives, as `12:1+q`.
 ///
 /// A polynomial is read whatever its size; where it is not small, the word alone is handed out.
-pub(crate) fn read_row(alloc: Global, line: &[u8], rank: u32) -> Result<RowLine, AllocError>
+pub(crate) fn read_entry(alloc: Global, line: &[u8], rank: u32) -> Result<EntryLine, AllocError>
     requires rank { rank ≤ MAX_RANK }
     requires size { length line.now ≤ LINE_LIMIT }
-    ensures { IfOk result (λ row. ReadsRow row line.now rank) }
+    ensures { IfOk result (λ entry. ReadsEntry entry line.now rank) }
 {
     let (text, rest) = cut(line, b':');
     let Some(word) = read_letters(text, rank) else {
-        return Ok(RowLine::Foreign);
+        return Ok(EntryLine::Foreign);
     };
     let Some((_, polynomial)) = rest.split_first() else {
-        return Ok(RowLine::Foreign);
+        return Ok(EntryLine::Foreign);
     };
-    row_of(alloc, word, polynomial)
+    entry_with(alloc, word, polynomial)
 }
 
-/// The row of a word, with the polynomial that is written so.
-fn row_of(alloc: Global, word: Word, text: &[u8]) -> Result<RowLine, AllocError>
-    ensures { IfOk result (λ row. ReadsPolynomial row word text.now) }
+/// The entry of a word, with the polynomial that is written so.
+fn entry_with(alloc: Global, word: Word, text: &[u8]) -> Result<EntryLine, AllocError>
+    ensures { IfOk result (λ entry. ReadsPolynomial entry word text.now) }
 {
     match read_polynomial(alloc, text, MAX_DEGREE) {
-        Ok(p) if is_small(&p) => Ok(RowLine::Small(word, p)),
-        Ok(_) | Err(TextFault::TooLarge) => Ok(RowLine::Large(word)),
-        Err(TextFault::NotAPolynomial) => Ok(RowLine::Foreign),
+        Ok(p) if is_checkable(&p) => Ok(EntryLine::Small(word, p)),
+        Ok(_) | Err(TextFault::TooLarge) => Ok(EntryLine::Large(word)),
+        Err(TextFault::NotAPolynomial) => Ok(EntryLine::Foreign),
         Err(TextFault::NoMemory) => Err(AllocError),
     }
 }

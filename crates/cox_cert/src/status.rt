@@ -1,6 +1,6 @@
 //! How a check ends.
 ghost use Rattle.std.specs.Prelude.{◌≡◌};
-ghost use Rattle.cox_cert.specs.Checks.{code_of, status_text};
+ghost use Rattle.cox_cert.specs.Checks.{check_code_of, status_text};
 
 /// Why a text proves nothing: the first of these that applies.
 #[derive(Clone, Copy, Debug, PartialEq, Eq)]
@@ -54,7 +54,7 @@ pub enum CheckStatus {
 impl CheckStatus {
     /// The number that the program ends with.
     pub fn code(self) -> u8
-        ensures { result ≡ code_of self }
+        ensures { result ≡ check_code_of self }
     {
         match self {
             CheckStatus::Yes => 0,

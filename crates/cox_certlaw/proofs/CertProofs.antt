@@ -26,11 +26,11 @@ use Rattle.cox_hecke.proofs.PolynomialValues.{kl_polynomial-value, kl_polynomial
 use Rattle.cox_context.specs.Numbers.{word_at}
 use Rattle.cox_context.proofs.PlacedWords.{contains-placed}
 use Rattle.cox_context.proofs.ShortLexLists.{HasMoreThan-listed}
-use Rattle.cox_certtext.specs.declared.limits.TheConstants.{MAX_LISTED, MAX_DEGREE, MAX_COEFFICIENT}
+use Rattle.cox_certtext.specs.declared.limits.TheConstants.{MAX_LISTED, MAX_DEGREE, MAX_CHECKED_COEFFICIENT}
 use Rattle.cox_rowcheck.proofs.IntervalRows.{interval-at, interval-short, interval-named}
 use Rattle.cox_rows.specs.Beyond.{IsBeyond, coefficient as large_coefficient}
 use Rattle.cox_outside.specs.Line.{line_feed}
-use Rattle.cox_certtext.specs.Certificate.{Certificate, IsCertificate, IsShortWord, IsLine, words_of, polynomials_of}
+use Rattle.cox_certtext.specs.Certificate.{Certificate, IsCertificate, IsShortWord, IsTextEntry, words_of_entries, polynomials_of_entries}
 use Rattle.cox_certtext.specs.Certificate.{contents, certificate_text}
 use Rattle.cox_cert.specs.Causes.{HasTop, HasInterval, HasSmall, HasRow, IsProof}
 use Rattle.cox_cert.proofs.Accepted.{certificate_text-gives, certificate_text-within}
@@ -46,13 +46,13 @@ use Rattle.cox_replies.specs.Limits.{Limits}
 use Rattle.cox_replies.specs.Question.{IsRefused}
 use Rattle.cox_replies.specs.CertReply.{RefusesCert, IsCertText}
 use Rattle.cox_replies.proofs.CertRefusals.{cert-none}
-use Rattle.cox_certlaw.proofs.CertificateRows.{IsCertificateOf, cert-certificate}
+use Rattle.cox_certlaw.proofs.RowCertificates.{IsCertificateOf, cert-certificate}
 use Rattle.cox_replies.proofs.OwnIntervals.{interval-member}
 
 -- P(x,w) has no coefficient above a limit, or the row of w is beyond it
-coefficients-within : (A : IntegerMatrix) (g : IsAdmissible A) (w x : List ℕ) (q : List ℤ) → (IsBeyond A MAX_COEFFICIENT w → ⊥)
-    → IsKazhdanLusztig A x w (coefficient q) → AllWithin MAX_COEFFICIENT q
-coefficients-within A g w x q small is k = by_lt_z MAX_COEFFICIENT (pos (unsigned_abs (coefficient q k)))
+coefficients-within : (A : IntegerMatrix) (g : IsAdmissible A) (w x : List ℕ) (q : List ℤ) → (IsBeyond A MAX_CHECKED_COEFFICIENT w → ⊥)
+    → IsKazhdanLusztig A x w (coefficient q) → AllWithin MAX_CHECKED_COEFFICIENT q
+coefficients-within A g w x q small is k = by_lt_z MAX_CHECKED_COEFFICIENT (pos (unsigned_abs (coefficient q k)))
     (λ above. absurd (small (large_coefficient {row = is.row} x k is.is (rw (is.at k) at above))))
     (λ within. within)
 
@@ -74,24 +74,24 @@ module _ (limits : Limits) (m : CoxeterMatrix) (w : List ℕ) (matrix : IsCoxete
       (λ (few : word_length (integer_matrix m) w ≤ MAX_DIFFERENCE). few)
       (cases_lt MAX_DIFFERENCE (word_length (integer_matrix m) w))
 
-  small : IsBeyond (integer_matrix m) MAX_COEFFICIENT w → ⊥
+  small : IsBeyond (integer_matrix m) MAX_CHECKED_COEFFICIENT w → ⊥
   small beyond = (cert-none limits (integer_matrix m) w free).2 (inr beyond)
 
-  count : length (words_of c.rows) ≡ length c.rows
-  count = length-map c.rows (λ row. row.0)
+  count : length (words_of_entries c.entries) ≡ length c.entries
+  count = length-map c.entries (λ entry. entry.0)
 
-  few : length c.rows ≤ MAX_LISTED
+  few : length c.entries ≤ MAX_LISTED
   few = ⊎_elim
-      (λ (many : MAX_LISTED < length c.rows). absurd ((cert-none limits (integer_matrix m) w free).0
-      (HasMoreThan-listed (IsInInterval (integer_matrix m) w) (min limits.context MAX_LISTED) (words_of c.rows) is.interval
+      (λ (many : MAX_LISTED < length c.entries). absurd ((cert-none limits (integer_matrix m) w free).0
+      (HasMoreThan-listed (IsInInterval (integer_matrix m) w) (min limits.context MAX_LISTED) (words_of_entries c.entries) is.interval
       (omega (arith, many, count)))))
-      (λ (less : length c.rows ≤ MAX_LISTED). less)
-      (cases_lt MAX_LISTED (length c.rows))
+      (λ (less : length c.entries ≤ MAX_LISTED). less)
+      (cases_lt MAX_LISTED (length c.entries))
 
-  some : 1 ≤ length c.rows
+  some : 1 ≤ length c.entries
   some =
-      let place = contains-placed (words_of c.rows) (normal_form (integer_matrix m) w)
-      (interval-member (integer_matrix m) admissible w (words_of c.rows) is.interval) in
+      let place = contains-placed (words_of_entries c.entries) (normal_form (integer_matrix m) w)
+      (interval-member (integer_matrix m) admissible w (words_of_entries c.entries) is.interval) in
       omega (arith, place.within, count)
 
   -- ---- what can be written
@@ -102,20 +102,21 @@ module _ (limits : Limits) (m : CoxeterMatrix) (w : List ℕ) (matrix : IsCoxete
     short = omega (arith, short, word_length-is (integer_matrix m) w);
   }
 
-  line : (i : ℕ) → i < length c.rows → IsLine m.rank (get_or c.rows i ([], []))
+  line : (i : ℕ) → i < length c.entries → IsTextEntry m.rank (get_or c.entries i ([], []))
   line i l =
-      let inside : i < length (words_of c.rows) = omega (arith, l, count) in
-      let word : word_at (words_of c.rows) i ≡ (get_or c.rows i ([], [])).0 = get_or-map (λ row. row.0) c.rows i ([], []) [] l in
-      let polynomial : numbered (polynomials_of c.rows) i ≡ (get_or c.rows i ([], [])).1
-      = get_or-map (λ row. row.1) c.rows i ([], []) [] l in
-      let member = interval-at (integer_matrix m) admissible w (words_of c.rows) is.interval i inside in
-      let letters : length (word_at (words_of c.rows) i) ≤ MAX_LETTERS
-      = omega (arith, short, interval-short (integer_matrix m) admissible w (words_of c.rows) is.interval i inside) in
-      let normal : IsPolynomial (numbered (polynomials_of c.rows) i)
-      = is.normal i [] (omega (arith, l, length-map c.rows (λ row. row.1))) in
+      let inside : i < length (words_of_entries c.entries) = omega (arith, l, count) in
+      let word : word_at (words_of_entries c.entries) i ≡ (get_or c.entries i ([], [])).0
+      = get_or-map (λ entry. entry.0) c.entries i ([], []) [] l in
+      let polynomial : numbered (polynomials_of_entries c.entries) i ≡ (get_or c.entries i ([], [])).1
+      = get_or-map (λ entry. entry.1) c.entries i ([], []) [] l in
+      let member = interval-at (integer_matrix m) admissible w (words_of_entries c.entries) is.interval i inside in
+      let letters : length (word_at (words_of_entries c.entries) i) ≤ MAX_LETTERS
+      = omega (arith, short, interval-short (integer_matrix m) admissible w (words_of_entries c.entries) is.interval i inside) in
+      let normal : IsPolynomial (numbered (polynomials_of_entries c.entries) i)
+      = is.normal i [] (omega (arith, l, length-map c.entries (λ entry. entry.1))) in
       record {
         word = record {
-          letters = rw word at (element-word (integer_matrix m) admissible (word_at (words_of c.rows) i) member.element);
+          letters = rw word at (element-word (integer_matrix m) admissible (word_at (words_of_entries c.entries) i) member.element);
           short = rw word at letters;
         };
         polynomial = rw polynomial at normal;
@@ -126,7 +127,7 @@ module _ (limits : Limits) (m : CoxeterMatrix) (w : List ℕ) (matrix : IsCoxete
     matrix = rw is.matrix matrix;
     rank = rw is.matrix rank;
     top = rw (is.matrix, is.top) top;
-    rows = λ i d l. rw is.matrix (rw (get_or_default c.rows i d ([], []) l) (line i l));
+    entries = λ i d l. rw is.matrix (rw (get_or_default c.entries i d ([], []) l) (line i l));
     some = some;
     few = few;
   }
@@ -141,24 +142,26 @@ module _ (limits : Limits) (m : CoxeterMatrix) (w : List ℕ) (matrix : IsCoxete
 
   has_interval : HasInterval c
   has_interval = rw (is.matrix, is.top)
-      (interval-named (integer_matrix m) admissible w (normal_form (integer_matrix m) w) (words_of c.rows) refl is.interval)
+      (interval-named (integer_matrix m) admissible w (normal_form (integer_matrix m) w) (words_of_entries c.entries) refl is.interval)
 
   has_small : HasSmall c
   has_small i d l =
-      let inside : i < length (words_of c.rows) = omega (arith, l, is.row.count) in
+      let inside : i < length (words_of_entries c.entries) = omega (arith, l, is.row.count) in
       let each = is.row.each i inside in
-      rw (get_or_default (polynomials_of c.rows) i d [] l) (record {
-        degree = degree-low (integer_matrix m) admissible w (word_at (words_of c.rows) i) (numbered (polynomials_of c.rows) i) short each;
-        coefficients = coefficients-within (integer_matrix m) admissible w (word_at (words_of c.rows) i)
-            (numbered (polynomials_of c.rows) i) small each;
+      rw (get_or_default (polynomials_of_entries c.entries) i d [] l) (record {
+        degree = degree-low (integer_matrix m) admissible w (word_at (words_of_entries c.entries) i)
+            (numbered (polynomials_of_entries c.entries) i) short each;
+        coefficients = coefficients-within (integer_matrix m) admissible w (word_at (words_of_entries c.entries) i)
+            (numbered (polynomials_of_entries c.entries) i) small each;
       })
 
   has_row : HasRow c
   has_row = rw (is.matrix, is.top) (record {
     count = is.row.count;
-    each = λ i l. kazhdan_lusztig-same (integer_matrix m) admissible (word_at (words_of c.rows) i) (word_at (words_of c.rows) i) w
-        (normal_form (integer_matrix m) w) (coefficient (numbered (polynomials_of c.rows) i))
-        (same-refl (integer_matrix m) admissible (word_at (words_of c.rows) i))
+    each = λ i l. kazhdan_lusztig-same (integer_matrix m) admissible (word_at (words_of_entries c.entries) i)
+        (word_at (words_of_entries c.entries) i) w (normal_form (integer_matrix m) w)
+        (coefficient (numbered (polynomials_of_entries c.entries) i))
+        (same-refl (integer_matrix m) admissible (word_at (words_of_entries c.entries) i))
         (same-sym (integer_matrix m) admissible (normal_form-same (integer_matrix m) admissible w)) (is.row.each i l);
   })
 

@@ -1,6 +1,6 @@
 -- polynomials without trailing zeros
 pub mod TrimmedLists
 -- the certificate whose text is answered
-pub mod CertificateRows
+pub mod RowCertificates
 -- certificates that are answered are accepted
 pub mod CertProofs

@@ -12,17 +12,17 @@ use Rattle.cox_outside.specs.declared.limits.TheConstants.{LINE_LIMIT}
 use Rattle.cox_print.specs.AnswerText.{pair_text}
 use Rattle.cox_certtext.specs.declared.limits.TheConstants.{MAX_LISTED}
 
--- a group, a word of it, and words with a polynomial each, which the text calls rows
+-- A group, a word of it, and the entries: words with a polynomial each. The text calls these rows.
 pub record Certificate : Type 0 where
   pub matrix : CoxeterMatrix
   pub top : List ℕ
-  pub rows : List (List ℕ × List ℤ)
+  pub entries : List (List ℕ × List ℤ)
 
-abbrev pub words_of : List (List ℕ × List ℤ) → List (List ℕ)
-words_of rows = map (λ row. row.0) rows
+abbrev pub words_of_entries : List (List ℕ × List ℤ) → List (List ℕ)
+words_of_entries entries = map (λ entry. entry.0) entries
 
-abbrev pub polynomials_of : List (List ℕ × List ℤ) → List (List ℤ)
-polynomials_of rows = map (λ row. row.1) rows
+abbrev pub polynomials_of_entries : List (List ℕ × List ℤ) → List (List ℤ)
+polynomials_of_entries entries = map (λ entry. entry.1) entries
 
 -- a word that can be written
 pub record IsShortWord (rank : ℕ) (word : List ℕ) : Type 0 where
@@ -30,20 +30,20 @@ pub record IsShortWord (rank : ℕ) (word : List ℕ) : Type 0 where
   pub short : length word ≤ MAX_LETTERS
 
 -- a word with a polynomial, as they can be written
-pub record IsLine (rank : ℕ) (row : List ℕ × List ℤ) : Type 0 where
-  pub word : IsShortWord rank row.0
-  pub polynomial : IsPolynomial row.1
+pub record IsTextEntry (rank : ℕ) (entry : List ℕ × List ℤ) : Type 0 where
+  pub word : IsShortWord rank entry.0
+  pub polynomial : IsPolynomial entry.1
 
 -- what can be written: a Coxeter matrix, a word of its letters, and from 1 to MAX_LISTED words with polynomials
 pub record IsCertificate (c : Certificate) : Type 0 where
   pub matrix : IsCoxeterMatrix c.matrix
   pub rank : c.matrix.rank ≤ MAX_RANK
   pub top : IsShortWord c.matrix.rank c.top
-  pub rows : All (IsLine c.matrix.rank) c.rows
-  pub some : 1 ≤ length c.rows
-  pub few : length c.rows ≤ MAX_LISTED
+  pub entries : All (IsTextEntry c.matrix.rank) c.entries
+  pub some : 1 ≤ length c.entries
+  pub few : length c.entries ≤ MAX_LISTED
 
--- the lines: `cert`, the rank and the labels; `element` and the word; `rows` and their number; the rows; `end`
+-- the lines: `cert`, the rank and the labels; `element` and the word; `rows` and how many entries there are; the entries; `end`
 abbrev pub matrix_line : CoxeterMatrix → List ℕ
 matrix_line g = codes "cert " ++ decimal g.rank ++ flat_map (λ label. codes " " ++ decimal label) g.labels
 
@@ -53,15 +53,15 @@ top_line rank top = codes "element " ++ word_text rank top
 abbrev pub count_line : ℕ → List ℕ
 count_line count = codes "rows " ++ decimal count
 
-abbrev pub row_line : ℕ → List ℕ × List ℤ → List ℕ
-row_line rank row = pair_text rank row.0 row.1
+abbrev pub entry_line : ℕ → List ℕ × List ℤ → List ℕ
+entry_line rank entry = pair_text rank entry.0 entry.1
 
 abbrev pub end_line : List ℕ
 end_line = codes "end"
 
 abbrev pub certificate_lines : Certificate → List (List ℕ)
-certificate_lines c = matrix_line c.matrix ∷ top_line c.matrix.rank c.top ∷ count_line (length c.rows)
-    ∷ map (row_line c.matrix.rank) c.rows ++ end_line ∷ []
+certificate_lines c = matrix_line c.matrix ∷ top_line c.matrix.rank c.top ∷ count_line (length c.entries)
+    ∷ map (entry_line c.matrix.rank) c.entries ++ end_line ∷ []
 
 -- the lines as one text; the end of the last is not part of it
 abbrev pub certificate_text : Certificate → List ℕ

@@ -1,4 +1,4 @@
--- The text of a certificate in parts: what stands before the list of its rows, and what stands behind it.
+-- The text of a certificate in parts: what stands before the list of its entries, and what stands behind it.
 use Rattle.std.specs.Prelude.{ℕ, List, ◌∷◌, ◌++◌, codes, decimal}
 use Rattle.std.specs.List.{flat_map}
 use Rattle.cox_base.specs.Matrix.{CoxeterMatrix}
@@ -17,7 +17,7 @@ labels_text labels = flat_map label_text labels
 abbrev pub next_top_line : ℕ → List ℕ → List ℕ
 next_top_line rank top = line_feed ∷ top_line rank top
 
--- the lines of the group and of the element, and the third line as far as the number of the rows
+-- the lines of the group and of the element, and the third line as far as the number of the entries
 abbrev pub certificate_head : CoxeterMatrix → List ℕ → List ℕ
 certificate_head g top = matrix_line g ++ next_top_line g.rank top ++ line_feed ∷ codes "rows "
 

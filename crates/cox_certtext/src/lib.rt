@@ -3,11 +3,11 @@
 //! The lines are definitions in `specs/Certificate.antt`. What reads and checks them is `cox_cert`.
 //!
 //! - `limits`: what a check takes at most
-//! - `printing`: what stands before the list of the rows, and behind it
+//! - `printing`: what stands before the list of the entries, and behind it
 #![tactic(auto)]
 
 mod limits;
 mod printing;
 
-pub use limits::{MAX_COEFFICIENT, MAX_DEGREE, MAX_LISTED};
+pub use limits::{MAX_CHECKED_COEFFICIENT, MAX_DEGREE, MAX_LISTED};
 pub use printing::{put_foot, put_head};

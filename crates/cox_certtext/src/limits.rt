@@ -8,4 +8,4 @@ pub const MAX_LISTED: usize = 4096;
 pub const MAX_DEGREE: u32 = 39;
 
 /// The greatest absolute value of a coefficient that a check takes.
-pub const MAX_COEFFICIENT: i64 = 2147483647;
+pub const MAX_CHECKED_COEFFICIENT: i64 = 2147483647;

@@ -1,4 +1,4 @@
-//! What stands before the list of a certificate's rows, and what stands behind it.
+//! What stands before the list of a certificate's entries, and what stands behind it.
 ghost use Rattle.std.specs.Prelude.{◌<◌, ◌≤◌};
 ghost use Rattle.cox_base.specs.Matrix.{IsWord};
 ghost use Rattle.cox_poly.specs.Puts.{Puts};
@@ -9,8 +9,8 @@ ghost use Rattle.cox_certtext.specs.CertificateParts.{label_text, labels_text, n
 use cox_base::{Coxeter, MAX_RANK, Word};
 use cox_print::{NoMemory, put_count, put_element, put_text};
 
-/// Appends the lines of the group and of the element, and the third line as far as the number of the rows. The list of the rows stands
-/// behind it: their number, and for each the end of the line before, the word, `:` and the polynomial.
+/// Appends the lines of the group and of the element, and the third line as far as the number of the entries. Behind it stands
+/// the list of the entries: their number, and for each the end of the line before, the word, `:` and the polynomial.
 ///
 /// For `12` in A 2 it is `cert 2 3`, `element 12` and `rows `.
 pub fn put_head(out: &mut Vec<u8>, g: &Coxeter, top: &Word) -> Result<(), NoMemory>
@@ -22,7 +22,7 @@ pub fn put_head(out: &mut Vec<u8>, g: &Coxeter, top: &Word) -> Result<(), NoMemo
     put_text(out, b"\nrows ")
 }
 
-/// Appends the end of the last row, and the last line: `end`. Its own end is not part of the text.
+/// Appends the end of the last entry's line, and the last line: `end`. Its own end is not part of the text.
 pub fn put_foot(out: &mut Vec<u8>) -> Result<(), NoMemory>
     ensures { Puts result certificate_foot out.old.items out.new.items }
 {

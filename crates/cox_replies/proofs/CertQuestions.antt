@@ -10,7 +10,7 @@ use Rattle.cox_base.specs.Members.{IsInInterval}
 use Rattle.cox_rpoly.specs.declared.TheConstants.{MAX_DIFFERENCE}
 use Rattle.cox_hecke.proofs.AllRows.{row_of, row_of-is}
 use Rattle.cox_context.proofs.IntervalLists.{interval-exists, interval-decided}
-use Rattle.cox_certtext.specs.declared.limits.TheConstants.{MAX_LISTED, MAX_COEFFICIENT}
+use Rattle.cox_certtext.specs.declared.limits.TheConstants.{MAX_LISTED, MAX_CHECKED_COEFFICIENT}
 use Rattle.cox_rows.proofs.BeyondDecided.{tell-beyond}
 use Rattle.cox_rows.proofs.NeedDecided.{tell-needs_beyond}
 use Rattle.cox_command.specs.declared.refusal.Refusal.{Refusal}
@@ -42,7 +42,8 @@ cert-decided A g limits w LargeInterval =
     ⊎_elim (λ many. inl many) (λ few. inr few.0) (interval-decided A g (min limits.context MAX_LISTED) w)
 cert-decided A g limits w FarApart = long-decided (word_length A w)
 cert-decided A g limits w LargeRow = either-decided
-    (tell-needs_beyond A g (pos limits.coefficient) (omega (arith, ints)) w) (tell-beyond A g MAX_COEFFICIENT (omega (arith, ints)) w)
+    (tell-needs_beyond A g (pos limits.coefficient) (omega (arith, ints)) w)
+    (tell-beyond A g MAX_CHECKED_COEFFICIENT (omega (arith, ints)) w)
 cert-decided A g limits w _ = inr (λ none. none)
 
 pub cert-answerable : (m : CoxeterMatrix) (g : IsAdmissible (integer_matrix m)) (limits : Limits) (w : List ℕ)

@@ -9,7 +9,7 @@ use Rattle.cox_base.specs.Members.{IsInInterval}
 use Rattle.cox_base.specs.SortedList.{IsListOf, HasMoreThan}
 use Rattle.cox_context.proofs.ShortLexLists.{HasMoreThan-listed, HasMoreThan-few}
 use Rattle.cox_rpoly.specs.declared.TheConstants.{MAX_DIFFERENCE}
-use Rattle.cox_certtext.specs.declared.limits.TheConstants.{MAX_LISTED, MAX_COEFFICIENT}
+use Rattle.cox_certtext.specs.declared.limits.TheConstants.{MAX_LISTED, MAX_CHECKED_COEFFICIENT}
 use Rattle.cox_rows.specs.Beyond.{IsBeyond, NeedsBeyond}
 use Rattle.cox_command.specs.declared.refusal.Refusal.{Refusal}
 use Rattle.cox_command.specs.declared.refusal.Refusal.TheVariants.{LargeInterval, FarApart, LargeRow}
@@ -83,7 +83,7 @@ module _ (limits : Limits) (A : IntegerMatrix) (w : List ℕ) where
 
   pub cert-listing : (why : Refusal) → IsRefused (RefusesListedOr limits A w ⊥) (Some why) → IsRefused (RefusesCert limits A w) (Some why)
   cert-listing = row-more (HasMoreThan (min limits.context MAX_LISTED) (IsInInterval A w)) (MAX_DIFFERENCE < word_length A w)
-      (NeedsBeyond A (pos limits.coefficient) w ⊎ IsBeyond A MAX_COEFFICIENT w)
+      (NeedsBeyond A (pos limits.coefficient) w ⊎ IsBeyond A MAX_CHECKED_COEFFICIENT w)
 
   -- a large interval
   pub cert-interval : (why : Refusal) → IsRefused (RefusesLargeOr limits A w ⊥) (Some why) → IsRefused (RefusesCert limits A w) (Some why)
@@ -102,7 +102,7 @@ module _ (limits : Limits) (A : IntegerMatrix) (w : List ℕ) where
   listing-none (inr (_, inr (few, inr (short, rest)))) = (few, short)
 
   pub cert-none : IsRefused (RefusesCert limits A w) None → (HasMoreThan (min limits.context MAX_LISTED) (IsInInterval A w) → ⊥)
-      × (MAX_DIFFERENCE < word_length A w → ⊥) × (NeedsBeyond A (pos limits.coefficient) w ⊎ IsBeyond A MAX_COEFFICIENT w → ⊥)
+      × (MAX_DIFFERENCE < word_length A w → ⊥) × (NeedsBeyond A (pos limits.coefficient) w ⊎ IsBeyond A MAX_CHECKED_COEFFICIENT w → ⊥)
   cert-none (inl (none, e)) = absurd none
   cert-none (inr (_, inl (many, e))) = absurd (cc e)
   cert-none (inr (_, inr (few, inl (long, e)))) = absurd (cc e)
@@ -111,12 +111,13 @@ module _ (limits : Limits) (A : IntegerMatrix) (w : List ℕ) where
 
   -- ---- rows that are too large
 
-  pub cert-large : IsRefused (RefusesListedOr limits A w ⊥) None → NeedsBeyond A (pos limits.coefficient) w ⊎ IsBeyond A MAX_COEFFICIENT w
+  pub cert-large : IsRefused (RefusesListedOr limits A w ⊥) None
+      → NeedsBeyond A (pos limits.coefficient) w ⊎ IsBeyond A MAX_CHECKED_COEFFICIENT w
       → IsRefused (RefusesCert limits A w) (Some LargeRow)
   cert-large free large = let none = listing-none free in inr (λ n. n, inr (none.0, inr (none.1, inl (large, refl))))
 
   pub cert-allowed : IsRefused (RefusesListedOr limits A w ⊥) None
-      → (NeedsBeyond A (pos limits.coefficient) w ⊎ IsBeyond A MAX_COEFFICIENT w → ⊥) → IsRefused (RefusesCert limits A w) None
+      → (NeedsBeyond A (pos limits.coefficient) w ⊎ IsBeyond A MAX_CHECKED_COEFFICIENT w → ⊥) → IsRefused (RefusesCert limits A w) None
   cert-allowed free small = let none = listing-none free in inr (λ n. n, inr (none.0, inr (none.1, inr (small, refl))))
 
   -- a row that is refused where the list is not

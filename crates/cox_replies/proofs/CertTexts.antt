@@ -9,7 +9,7 @@ use Rattle.cox_base.specs.SortedList.{IsListOf}
 use Rattle.cox_hecke.specs.Family.{Family}
 use Rattle.cox_hecke.specs.Row.{IsRow}
 use Rattle.cox_print.specs.AnswerText.{pair_text, list_text}
-use Rattle.cox_certtext.specs.Certificate.{Certificate, row_line, certificate_text}
+use Rattle.cox_certtext.specs.Certificate.{Certificate, entry_line, certificate_text}
 use Rattle.cox_certtext.specs.CertificateParts.{certificate_head, certificate_foot}
 use Rattle.cox_certtext.proofs.CertificateTexts.{certificate_text-parts}
 use Rattle.cox_replies.specs.RowReply.{coefficients_to, pairs_text}
@@ -20,22 +20,22 @@ abbrev pub whole_in : IntegerMatrix → List ℕ → Family → List ℕ → Lis
 whole_in A w p x = coefficients_to (word_length A w) (p x)
 
 -- the words, each with its polynomial
-abbrev pub rows_of : (List ℕ → List ℤ) → List (List ℕ) → List (List ℕ × List ℤ)
-rows_of polynomial words = map (λ x. (x, polynomial x)) words
+abbrev pub entries_of : (List ℕ → List ℤ) → List (List ℕ) → List (List ℕ × List ℤ)
+entries_of polynomial words = map (λ x. (x, polynomial x)) words
 
 abbrev pub certificate_of : CoxeterMatrix → List ℕ → (List ℕ → List ℤ) → List (List ℕ) → Certificate
 certificate_of m w polynomial words = record {
   matrix = m;
   top = normal_form (integer_matrix m) w;
-  rows = rows_of polynomial words;
+  entries = entries_of polynomial words;
 }
 
--- the lines of the rows
-row_lines-rows : (rank : ℕ) (polynomial : List ℕ → List ℤ) (words : List (List ℕ))
-    → map (row_line rank) (rows_of polynomial words) ≡ map (λ x. pair_text rank x (polynomial x)) words
-row_lines-rows rank polynomial [] = refl
-row_lines-rows rank polynomial (x ∷ words) =
-    ap (λ lines. pair_text rank x (polynomial x) ∷ lines) (row_lines-rows rank polynomial words)
+-- the lines of the entries
+entry_lines-of : (rank : ℕ) (polynomial : List ℕ → List ℤ) (words : List (List ℕ))
+    → map (entry_line rank) (entries_of polynomial words) ≡ map (λ x. pair_text rank x (polynomial x)) words
+entry_lines-of rank polynomial [] = refl
+entry_lines-of rank polynomial (x ∷ words) =
+    ap (λ lines. pair_text rank x (polynomial x) ∷ lines) (entry_lines-of rank polynomial words)
 
 -- the text of such a certificate
 pub text-parts : (m : CoxeterMatrix) (w : List ℕ) (polynomial : List ℕ → List ℤ) (words : List (List ℕ))
@@ -45,7 +45,7 @@ pub text-parts : (m : CoxeterMatrix) (w : List ℕ) (polynomial : List ℕ → L
 text-parts m w polynomial words =
     certificate_text-parts (certificate_of m w polynomial words)
     ∙ ap (λ lines. certificate_head m (normal_form (integer_matrix m) w) ++ list_text lines ++ certificate_foot)
-    (row_lines-rows m.rank polynomial words)
+    (entry_lines-of m.rank polynomial words)
 
 -- its text
 pub cert-text : (m : CoxeterMatrix) (w : List ℕ) (p : Family) → IsRow (integer_matrix m) w p → (words : List (List ℕ))

@@ -13,7 +13,7 @@ ghost use Rattle.cox_poly.specs.Puts.{Puts};
 ghost use Rattle.cox_hecke.specs.Family.{Family};
 ghost use Rattle.cox_hecke.specs.Row.{IsRow};
 ghost use Rattle.cox_context.specs.Numbers.{word_at};
-ghost use Rattle.cox_certtext.specs.declared.limits.TheConstants.{MAX_COEFFICIENT};
+ghost use Rattle.cox_certtext.specs.declared.limits.TheConstants.{MAX_CHECKED_COEFFICIENT};
 ghost use Rattle.cox_rows.specs.Beyond.{IsBeyond, NeedsBeyond};
 ghost use Rattle.cox_rows.specs.Holding.{HasRow};
 ghost use Rattle.cox_certtext.specs.CertificateParts.{certificate_head, certificate_foot};
@@ -25,7 +25,7 @@ ghost use Rattle.cox_replies.specs.Putting.{PutsUnless, Finds, words_at};
 
 use crate::pairs::{members_below, put_pairs};
 use crate::unanswered::{Unanswered, unrefused};
-use cox_certtext::{MAX_COEFFICIENT, MAX_LISTED, put_foot, put_head};
+use cox_certtext::{MAX_CHECKED_COEFFICIENT, MAX_LISTED, put_foot, put_head};
 use cox_command::Refusal;
 use cox_poly::PolyView;
 use cox_print::NoMemory;
@@ -124,7 +124,8 @@ fn put_lines(out: &mut Vec<u8>, rows: &Rows, i: u32, below: &[u32]) -> Result<()
 fn has_large(rows: &Rows, i: u32) -> bool
     requires member { i < length rows.now.elements.members }
     requires there { HasRow rows.now i }
-    ensures { IsTrue result ↔ IsBeyond (integer_matrix rows.now.elements.matrix) MAX_COEFFICIENT (word_at rows.now.elements.members i) }
+    ensures { IsTrue result ↔ IsBeyond (integer_matrix rows.now.elements.matrix) MAX_CHECKED_COEFFICIENT
+        (word_at rows.now.elements.members i) }
 {
     prove!(rows.context().len() > 0);
     let Some(row) = rows.row(i) else {
@@ -140,8 +141,8 @@ fn has_large(rows: &Rows, i: u32) -> bool
 
 /// A degree with a coefficient that is larger than a check takes, if there is one.
 fn large_degree(p: &PolyView<'_>) -> Option<u32>
-    ensures some { IfSome result (λ d. MAX_COEFFICIENT <ℤ pos (unsigned_abs (coefficient p.now d))) }
-    ensures none { IfNone result (AllWithin MAX_COEFFICIENT p.now) }
+    ensures some { IfSome result (λ d. MAX_CHECKED_COEFFICIENT <ℤ pos (unsigned_abs (coefficient p.now d))) }
+    ensures none { IfNone result (AllWithin MAX_CHECKED_COEFFICIENT p.now) }
 {
     let degree = p.degree()?;
     for d in 0..degree {
@@ -158,8 +159,8 @@ fn large_degree(p: &PolyView<'_>) -> Option<u32>
 
 /// Whether a coefficient is larger than a check takes.
 fn is_large(value: i64) -> bool
-    ensures above { IsTrue result → MAX_COEFFICIENT <ℤ pos (unsigned_abs value) }
-    ensures within { result ≡ false → IsWithin MAX_COEFFICIENT value }
+    ensures above { IsTrue result → MAX_CHECKED_COEFFICIENT <ℤ pos (unsigned_abs value) }
+    ensures within { result ≡ false → IsWithin MAX_CHECKED_COEFFICIENT value }
 {
-    value.unsigned_abs() > MAX_COEFFICIENT as u64
+    value.unsigned_abs() > MAX_CHECKED_COEFFICIENT as u64
 }

@@ -9,7 +9,7 @@ use Rattle.cox_poly.specs.Products.{product, times_q_power}
 use Rattle.cox_poly.proofs.Products.{terms_below, terms_below-product, terms_below-all, product_of_none, product-comm}
 use Rattle.cox_poly.proofs.Polynomials.{coefficient_past, coefficient-take}
 use Rattle.cox_poly.proofs.Norms.{absolute_after}
-use Rattle.cox_rowcheck.specs.SmallPolynomials.{IsSmall}
+use Rattle.cox_rowcheck.specs.CheckablePolynomials.{IsCheckable}
 use Rattle.cox_rowcheck.specs.MemberSums.{HasAdded}
 
 -- the terms of p below q^k, times r, were added
@@ -25,7 +25,7 @@ added-none old r p = record {
 }
 
 -- one term adds at most 2^94
-pub added-size : (old r p : List ℤ) (k j a : ℕ) → unsigned_abs (coefficient old j) ≤ a → HasSmallCoefficients r → IsSmall p
+pub added-size : (old r p : List ℤ) (k j a : ℕ) → unsigned_abs (coefficient old j) ≤ a → HasSmallCoefficients r → IsCheckable p
     → unsigned_abs (coefficient_after old r (coefficient p k) k j) ≤ a + 2 ^ 94
 added-size old r p k j a low narrow small =
     let bound = absolute_after (coefficient old) (coefficient r) (coefficient p k) k j a (2 ^ 63) low narrow
@@ -34,7 +34,7 @@ added-size old r p k j a low narrow small =
     in omega (arith, bound, factor)
 
 -- one term more
-pub added-more : (first old new r p : List ℤ) (k n : ℕ) → n ≡ suc k → IsAdded first old r p k → HasSmallCoefficients r → IsSmall p
+pub added-more : (first old new r p : List ℤ) (k n : ℕ) → n ≡ suc k → IsAdded first old r p k → HasSmallCoefficients r → IsCheckable p
     → ((j : ℕ) → coefficient new j ≡ coefficient_after old r (coefficient p k) k j) → IsAdded first new r p n
 added-more first old new r p k n e h narrow small is = rw e record {
   value = λ j.

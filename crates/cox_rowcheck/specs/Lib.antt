@@ -1,7 +1,7 @@
 -- rows as lists of polynomials
 pub mod ListedRows
--- small polynomials
-pub mod SmallPolynomials
+-- the polynomials that a check takes
+pub mod CheckablePolynomials
 -- families of polynomials that are given at some elements
 pub mod MemberFamily
 -- the conditions of a row, with sums over one list

@@ -7,22 +7,22 @@
 //!
 //! - `row_check`: the conditions, one by one
 //! - `sums`: the sums of the R(x,y) p(y), for all x at once
+//! - `checkable`: whether a check takes a polynomial
 //! - `column`: R(x,y) for one y and all x
 //! - `entries`: the polynomials of a column, one behind another
 //! - `prefixes`: the columns of the prefixes of a word
 //! - `order`: the members in lexicographic order
-//! - `small`: whether polynomials are small
 //! - `laws`: the polynomials are those of the row exactly where the conditions hold, and there is one such list
 #![tactic(auto)]
 
+mod checkable;
 mod column;
 mod entries;
 pub mod laws;
 mod order;
 mod prefixes;
 mod row_check;
-mod small;
 mod sums;
 
+pub use checkable::is_checkable;
 pub use row_check::is_row;
-pub use small::is_small;

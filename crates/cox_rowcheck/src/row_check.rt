@@ -10,7 +10,7 @@ ghost use Rattle.cox_rpoly.specs.declared.TheConstants.{MAX_DIFFERENCE};
 ghost use Rattle.cox_context.specs.Numbers.{word_at};
 ghost use Rattle.cox_certtext.specs.declared.limits.TheConstants.{MAX_LISTED};
 ghost use Rattle.cox_rowcheck.specs.ListedRows.{AreRow};
-ghost use Rattle.cox_rowcheck.specs.SmallPolynomials.{IsSmall};
+ghost use Rattle.cox_rowcheck.specs.CheckablePolynomials.{IsCheckable};
 ghost use Rattle.cox_rowcheck.specs.Conditions.{MeetsBound, AreBounded, AreTurned};
 
 use crate::sums::{SUM_TERMS, Sum, sums_of};
@@ -102,7 +102,7 @@ pub fn is_row(
     requires w { w < length ctx.now.members }
     requires count { length polynomials.now ≡ length ctx.now.members }
     requires interval { IsListOf (IsInInterval (integer_matrix ctx.now.matrix) (word_at ctx.now.members w)) ctx.now.members }
-    requires small { All IsSmall polynomials.now }
+    requires small { All IsCheckable polynomials.now }
     requires short { length (word_at ctx.now.members w) ≤ MAX_DIFFERENCE }
     requires few { length ctx.now.members ≤ MAX_LISTED }
     ensures { IfOk result (λ answer. IsTrue answer

@@ -8,7 +8,7 @@ ghost use Rattle.cox_rpoly.specs.declared.TheConstants.{MAX_DIFFERENCE};
 ghost use Rattle.cox_rpoly.specs.Terms.{numbered};
 ghost use Rattle.cox_context.specs.Numbers.{word_at};
 ghost use Rattle.cox_certtext.specs.declared.limits.TheConstants.{MAX_LISTED};
-ghost use Rattle.cox_rowcheck.specs.SmallPolynomials.{IsSmall};
+ghost use Rattle.cox_rowcheck.specs.CheckablePolynomials.{IsCheckable};
 ghost use Rattle.cox_rowcheck.specs.Columns.{IsColumn};
 ghost use Rattle.cox_rowcheck.specs.MemberSums.{HasAdded, AreZeros, AreSums};
 
@@ -47,7 +47,7 @@ fn add_multiple(sum: &mut Sum, r: &[i64], factor: i64, shift: usize)
 
 /// How many coefficients a polynomial has.
 fn size(p: &Poly) -> u32
-    requires small { IsSmall p.now }
+    requires small { IsCheckable p.now }
     ensures low { HasDegreeBelow p.now result }
     ensures few { result ≤ TERMS }
 {
@@ -61,7 +61,7 @@ fn size(p: &Poly) -> u32
 fn add_product(sum: &mut Sum, r: &[i64], p: &Poly)
     requires low { HasDegreeBelow r.now TERMS }
     requires narrow { HasSmallCoefficients r.now }
-    requires small { IsSmall p.now }
+    requires small { IsCheckable p.now }
     requires room { (k : ℕ) → unsigned_abs (coefficient sum.old k) ≤ 2 ^ 125 }
     ensures sum { (k : ℕ) → coefficient sum.new k ≡ plus (coefficient sum.old) (product (coefficient r.now) (coefficient p.now)) k }
     ensures grown { (k : ℕ) → unsigned_abs (coefficient sum.new k) ≤ unsigned_abs (coefficient sum.old k) + 2 ^ 100 }
@@ -79,7 +79,7 @@ fn add_column(ctx: &Context, sums: &mut Vec<Sum>, column: &Column, p: &Poly)
     requires short { length (word_at ctx.now.members column.now.number) ≤ MAX_DIFFERENCE }
     requires column { IsColumn (integer_matrix ctx.now.matrix) ctx.now.members
         (word_at ctx.now.members column.now.number) column.now.entries }
-    requires small { IsSmall p.now }
+    requires small { IsCheckable p.now }
     requires room { (i k : ℕ) → unsigned_abs (coefficient (numbered sums.old.items i) k) ≤ 2 ^ 124 }
     ensures size { length sums.new.items ≡ length sums.old.items }
     ensures sum { (i : ℕ) → i < length sums.old.items
@@ -119,7 +119,7 @@ pub(crate) fn sums_of(
 ) -> Result<Vec<Sum>, AllocError>
     requires count { length polynomials.now ≡ length ctx.now.members }
     requires few { length ctx.now.members ≤ MAX_LISTED }
-    requires small { All IsSmall polynomials.now }
+    requires small { All IsCheckable polynomials.now }
     requires short { (i : ℕ) → i < length ctx.now.members → length (word_at ctx.now.members i) ≤ MAX_DIFFERENCE }
     ensures { IfOk result (λ sums. AreSums (integer_matrix ctx.now.matrix) ctx.now.members polynomials.now ctx.now.members sums.items) }
 {

@@ -37,7 +37,7 @@ ghost use Rattle.cox_rows.specs.Beyond.{IsBeyond, NeedsBeyond};
 ghost use Rattle.cox_cells.specs.declared.kind.CellKind.TheVariants.{Left as LeftCells, Right as RightCells, Both as TwoSidedCells};
 ghost use Rattle.cox_cells.specs.Cells.{AreCells};
 ghost use Rattle.cox_inverse.specs.InverseRow.{IsInverseRow};
-ghost use Rattle.cox_certtext.specs.declared.limits.TheConstants.{MAX_LISTED, MAX_COEFFICIENT};
+ghost use Rattle.cox_certtext.specs.declared.limits.TheConstants.{MAX_LISTED, MAX_CHECKED_COEFFICIENT};
 ghost use Rattle.cox_replies.specs.Limits.{Limits};
 ghost use Rattle.cox_replies.specs.Listed.{IsOfList};
 ghost use Rattle.cox_replies.specs.RowReply.{coefficients_to, IsExtremalBelow};
@@ -180,7 +180,7 @@ pub fn commands()
     ensures cert { (state : State) (g : CoxeterMatrix) (w v : List ℕ) → state.group ≡ Some g → ReadsAs g w v
         → (let A = integer_matrix g in IsAnswered state (codes "cert" ∷ w ∷ [])
         (HasMoreThan (min state.limits.context MAX_LISTED) (IsInInterval A v)) (MAX_DIFFERENCE < word_length A v)
-        (NeedsBeyond A (pos state.limits.coefficient) v ⊎ IsBeyond A MAX_COEFFICIENT v)
+        (NeedsBeyond A (pos state.limits.coefficient) v ⊎ IsBeyond A MAX_CHECKED_COEFFICIENT v)
         (IsCertText g v)) }
     ensures left_module { (state : State) (g : CoxeterMatrix) (w v : List ℕ) → state.group ≡ Some g → ReadsAs g w v
         → (let A = integer_matrix g in let large = IsTooLarge (IsElement A) state.limits.context in

@@ -10,7 +10,7 @@
 ghost use Rattle.std.specs.Prelude.{◌≡◌, ◌≢◌, ℕ, List, [], map, drop, IfOk, IfErr, IfSome, IfNone};
 ghost use Rattle.std.specs.Process.{exit_status};
 ghost use Rattle.std.specs.String.{string_bytes};
-ghost use Rattle.cox_cert.specs.Checks.{IsCheck, code_of};
+ghost use Rattle.cox_cert.specs.Checks.{IsCheck, check_code_of};
 
 use cox_cert::{CheckStatus, check};
 use cox_outside::{Sink, Source, StdSink, StdSource, arguments_of};
@@ -73,7 +73,7 @@ fn start<S: Source, K: Sink>(
 
 /// What the program ends with.
 fn exit_code(status: CheckStatus) -> ExitCode
-    ensures { exit_status result ≡ code_of status }
+    ensures { exit_status result ≡ check_code_of status }
 {
     ExitCode::from(status.code())
 }

@@ -1,5 +1,5 @@
-//! Tests of what is read and written: checks of certificates, the words of `work`, options, texts of faults, and sources and sinks over streams.
-//! There is no code here, only tests. They stand apart from the crates that they test, since a crate with tests is proved twice.
+//! Tests of what is read and written: checks of certificates, the words of `work`, options, texts of faults, and sources and sinks over
+//! streams. There is no code here, only tests. They stand apart from the crates that they test, since a crate with tests is proved twice.
 //!
 //! - `certificates`: whole checks of `cox_cert`
 //! - `commands`: the words that `work` of `cox_command` generates

@@ -1,5 +1,5 @@
 -- Lines before the last are no whole certificate's.
-use Rattle.cox_cert.proofs.NextLines.{few-start, few-matrix, few-head, few-rows}
+use Rattle.cox_cert.proofs.NextLines.{few-start, few-matrix, few-head, few-entries}
 use Rattle.cox_cert.proofs.draft.finished.Goals as goal
 
 pub returns-in-Start : goal.returns-in-Start
@@ -12,4 +12,4 @@ pub returns-in-Top : goal.returns-in-Top
 returns-in-Top c = λ lines h. few-head _ _ lines (rw c.in-Top.is at h)
 
 pub returns : goal.returns
-returns c = λ lines h. few-rows _ lines (rw c.in-Rows.is at h)
+returns c = λ lines h. few-entries _ lines (rw c.in-Entries.is at h)

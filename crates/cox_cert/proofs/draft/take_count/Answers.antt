@@ -1,4 +1,4 @@
--- No row stands behind the number of rows yet.
+-- No entry stands behind the number of entries yet.
 use Rattle.std.proofs.Common.{refl}
 use Rattle.cox_cert.proofs.NextLines.{count-first}
 use Rattle.cox_cert.proofs.draft.take_count.Goals as goal

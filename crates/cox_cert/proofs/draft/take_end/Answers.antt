@@ -1,4 +1,4 @@
--- Another line than the last goes on with no certificate whose rows are all there.
+-- Another line than the last goes on with no certificate whose entries are all there.
 use Rattle.std.proofs.Common.{refl, arith}
 use Rattle.std.proofs.lemmas.Bool.{false≢true}
 use Rattle.cox_cert.proofs.NextLines.{end-all, end-none}

@@ -10,7 +10,7 @@ use Rattle.cox_rpoly.specs.Terms.{numbered}
 use Rattle.cox_context.specs.Numbers.{word_at}
 use Rattle.cox_context.proofs.PlacedWords.{contains-placed}
 use Rattle.cox_context.proofs.Shifting.{element-at}
-use Rattle.cox_rowcheck.specs.SmallPolynomials.{IsSmall}
+use Rattle.cox_rowcheck.specs.CheckablePolynomials.{IsCheckable}
 use Rattle.cox_rowcheck.specs.MemberFamily.{family_of}
 use Rattle.cox_rowcheck.specs.Columns.{IsColumn}
 use Rattle.cox_rowcheck.specs.Prefixes.{letters_of}
@@ -46,8 +46,9 @@ add_column-requires-clause-small c =
     c.len-in-loop-word.result c.index-column.result.now (c.in_ok-climb.ensures {u = tt}).prefixes
     (omega (arith, c.len-in-loop-word.ensures.value, (c.in_ok-climb.ensures {u = tt}).whole)) c.index-column.ensures
     in let inside : c.index-column.result.now.number < length c.args.polynomials.now = omega (arith, c.requires.count, here.inside)
-    in subst IsSmall (sym c.index-polynomials-column.is)
-    (All-get_or IsSmall c.args.polynomials.now c.index-column.result.now.number c.index-polynomials-column.result inside c.requires.small)
+    in subst IsCheckable (sym c.index-polynomials-column.is)
+    (All-get_or IsCheckable c.args.polynomials.now c.index-column.result.now.number c.index-polynomials-column.result inside
+    c.requires.small)
 
 pub add_column-requires-clause-room : goal.add_column-requires-clause-room
 add_column-requires-clause-room c = λ i k.

@@ -15,36 +15,36 @@ use Rattle.cox_hecke.specs.Family.{Family}
 use Rattle.cox_hecke.specs.Row.{IsRow}
 use Rattle.cox_rowcheck.specs.ListedRows.{AreRow}
 use Rattle.cox_print.specs.AnswerText.{pair_text, list_text}
-use Rattle.cox_certtext.specs.Certificate.{Certificate, words_of, polynomials_of, certificate_text}
+use Rattle.cox_certtext.specs.Certificate.{Certificate, words_of_entries, polynomials_of_entries, certificate_text}
 use Rattle.cox_certtext.specs.CertificateParts.{certificate_head, certificate_foot}
 use Rattle.cox_replies.specs.RowReply.{coefficients_to}
 use Rattle.cox_replies.specs.CertReply.{IsCertText}
 use Rattle.cox_replies.proofs.PolynomialTexts.{same_text, listed}
 use Rattle.cox_replies.proofs.PairTexts.{row-high}
-use Rattle.cox_replies.proofs.CertTexts.{whole_in, rows_of, certificate_of, text-parts}
+use Rattle.cox_replies.proofs.CertTexts.{whole_in, entries_of, certificate_of, text-parts}
 use Rattle.cox_certlaw.proofs.TrimmedLists.{trim, trim-same, trim-polynomial}
 
 -- the certificate of the row of w, as it is read: no polynomial has a trailing zero
 pub record IsCertificateOf (g : CoxeterMatrix) (w : List ℕ) (c : Certificate) : Type 0 where
   pub matrix : c.matrix ≡ g
   pub top : c.top ≡ normal_form (integer_matrix g) w
-  pub interval : IsListOf (IsInInterval (integer_matrix g) w) (words_of c.rows)
-  pub row : AreRow (integer_matrix g) w (words_of c.rows) (polynomials_of c.rows)
-  pub normal : All IsPolynomial (polynomials_of c.rows)
+  pub interval : IsListOf (IsInInterval (integer_matrix g) w) (words_of_entries c.entries)
+  pub row : AreRow (integer_matrix g) w (words_of_entries c.entries) (polynomials_of_entries c.entries)
+  pub normal : All IsPolynomial (polynomials_of_entries c.entries)
 
 -- P(x,w) without trailing zeros, where p is the row of w
 abbrev polynomial_in : IntegerMatrix → List ℕ → Family → List ℕ → List ℤ
 polynomial_in A w p x = trim (whole_in A w p x)
 
--- the parts of the rows
-words_of-rows : (polynomial : List ℕ → List ℤ) (words : List (List ℕ)) → words_of (rows_of polynomial words) ≡ words
-words_of-rows polynomial [] = refl
-words_of-rows polynomial (x ∷ words) = ap (λ xs. x ∷ xs) (words_of-rows polynomial words)
+-- the parts of the entries
+words_of_entries-back : (polynomial : List ℕ → List ℤ) (words : List (List ℕ)) → words_of_entries (entries_of polynomial words) ≡ words
+words_of_entries-back polynomial [] = refl
+words_of_entries-back polynomial (x ∷ words) = ap (λ xs. x ∷ xs) (words_of_entries-back polynomial words)
 
-polynomials_of-rows : (polynomial : List ℕ → List ℤ) (words : List (List ℕ))
-    → polynomials_of (rows_of polynomial words) ≡ map polynomial words
-polynomials_of-rows polynomial [] = refl
-polynomials_of-rows polynomial (x ∷ words) = ap (λ ps. polynomial x ∷ ps) (polynomials_of-rows polynomial words)
+polynomials_of_entries-back : (polynomial : List ℕ → List ℤ) (words : List (List ℕ))
+    → polynomials_of_entries (entries_of polynomial words) ≡ map polynomial words
+polynomials_of_entries-back polynomial [] = refl
+polynomials_of_entries-back polynomial (x ∷ words) = ap (λ ps. polynomial x ∷ ps) (polynomials_of_entries-back polynomial words)
 
 -- polynomials with the same coefficients give the same lines
 same_lines : (rank : ℕ) (polynomial other : List ℕ → List ℤ) → ((x : List ℕ) → SameCoefficients (polynomial x) (other x))
@@ -82,9 +82,9 @@ module _ (m : CoxeterMatrix) (g : IsAdmissible (integer_matrix m)) (w : List ℕ
   certificate_of-is words list = let polynomial = polynomial_in (integer_matrix m) w p in record {
     matrix = refl;
     top = refl;
-    interval = rw (words_of-rows polynomial words) list;
-    row = rw (words_of-rows polynomial words, polynomials_of-rows polynomial words) (are_row words);
-    normal = rw (polynomials_of-rows polynomial words) (normal words);
+    interval = rw (words_of_entries-back polynomial words) list;
+    row = rw (words_of_entries-back polynomial words, polynomials_of_entries-back polynomial words) (are_row words);
+    normal = rw (polynomials_of_entries-back polynomial words) (normal words);
   }
 
 -- each right text is that of such a certificate
