@@ -1,5 +1,6 @@
 #!/usr/bin/env python3
-"""Compares the limits that the packages for Python and GAP write out with those of the crates.
+"""Compares the limits that the packages for Python and GAP write out, and those of the checks, with
+those of the crates.
 
     checks/limits.py
 
@@ -9,6 +10,7 @@ named types take. What a refusal means both packages have to say in the same wor
 differs, and a last line with counts; the exit status is 1 where something differs. It needs Python 3
 alone, runs no program, and is no part of the gate.
 """
+import ast
 import os
 import re
 import sys
@@ -60,6 +62,40 @@ LIMITS_OF_GAP = [
 ]
 
 
+# The same of the checks, which run without the package: the file, and the names there.
+LIMITS_OF_CHECKS = [
+    ("certificates.py", "MOST_RANK", "cox_base/src/limits.rt", "MAX_RANK"),
+    ("certificates.py", "MOST_LETTERS", "cox_base/src/limits.rt", "MAX_LETTERS"),
+    ("certificates.py", "MOST_ENTRIES", "cox_certtext/src/limits.rt", "MAX_LISTED"),
+    ("certificates.py", "MOST_OF_LINE", "cox_outside/src/limits.rt", "LINE_LIMIT"),
+    ("certificates.py", "MOST_OF_INPUT", "cox_outside/src/limits.rt", "INPUT_LIMIT"),
+    ("certificates.py", "MOST_LENGTH", "cox_rpoly/src/lib.rt", "MAX_DIFFERENCE"),
+    ("certificates.py", "MOST_DEGREE", "cox_certtext/src/limits.rt", "MAX_DEGREE"),
+    ("certificates.py", "MOST_COEFFICIENT", "cox_certtext/src/limits.rt", "MAX_CHECKED_COEFFICIENT"),
+    ("jobs.py", "MOST_BLOCKS", "cox_shell/src/limits.rt", "MAX_BLOCKS"),
+    ("jobs.py", "MOST_LINES", "cox_shell/src/limits.rt", "MAX_LINES"),
+    ("jobs.py", "MOST_BYTES", "cox_outside/src/limits.rt", "LINE_LIMIT"),
+    ("jobs.py", "MOST_OF_INPUT", "cox_outside/src/limits.rt", "INPUT_LIMIT"),
+    ("program.py", "MOST_BYTES", "cox_outside/src/limits.rt", "INPUT_LIMIT"),
+    ("hostile.py", "MOST_BYTES", "cox_outside/src/limits.rt", "INPUT_LIMIT"),
+]
+
+
+def numbers_of(check):
+    """The numbers that a check writes out, by their names: it is read, and not run."""
+    with open(os.path.join(TOP, "checks", check), encoding="utf-8") as text:
+        lines = ast.parse(text.read()).body
+    found = {}
+    for line in lines:
+        if isinstance(line, ast.Assign) and isinstance(line.targets[0], (ast.Name, ast.Tuple)):
+            names = line.targets[0].elts if isinstance(line.targets[0], ast.Tuple) else [line.targets[0]]
+            values = line.value.elts if isinstance(line.value, ast.Tuple) else [line.value]
+            for name, value in zip(names, values):
+                if all(isinstance(it, (ast.Constant, ast.BinOp, ast.operator)) for it in ast.walk(value)):
+                    found[name.id] = eval(compile(ast.Expression(value), check, "eval"))
+    return found
+
+
 def constant(path, name):
     """The value of a constant in a source."""
     with open(os.path.join(TOP, "crates", path), encoding="utf-8") as source:
@@ -98,6 +134,8 @@ def main():
     count = Count()
     for path, name, ours in LIMITS:
         count.check(f"{name} in crates/{path}", ours, constant(path, name))
+    for check, ours, path, name in LIMITS_OF_CHECKS:
+        count.check(f"{name} in crates/{path}, in checks/{check}", numbers_of(check).get(ours), constant(path, name))
     for texts, key, constants in NAMED:
         numbers = [int(it.replace(",", "")) for it in re.findall("[0-9][0-9,]*", texts[key])]
         count.check(f"the numbers of {texts[key]!r}", numbers, [constant(*it) for it in constants])
