@@ -67,10 +67,10 @@ module _ (limits : Limits) (G : CoxeterMatrix) (g : IsAdmissible (integer_matrix
 
 -- where inverse polynomials are read off the rows, the rows between a member and what is below it are held, and not refused
 pub read_off-keeps : (limits : Limits) (G : CoxeterMatrix) → IsAdmissible (integer_matrix G) → (y w : List ℕ) (ends : Ends)
-    (rows : Holding) (whole : LongestElement) → AreOf G limits rows → IsReadOff rows whole → IsClosed (integer_matrix G) rows.elements.members
-    → HoldsEnds (integer_matrix G) y w ends rows
+    (rows : Holding) (w0 : LongestElement) → AreOf G limits rows → IsReadOff rows w0
+    → IsClosed (integer_matrix G) rows.elements.members → HoldsEnds (integer_matrix G) y w ends rows
     → IsRefused (RefusesBetween limits (integer_matrix G) y w) None × HoldsBetween (integer_matrix G) y w ends rows
-read_off-keeps limits G g y w ends rows whole of read closed numbers = (
+read_off-keeps limits G g y w ends rows w0 of read closed numbers = (
   all-allowed limits G g y w ends rows of closed numbers read.small,
   all-holds limits G g y w ends rows of closed numbers read.readable.there,
 )
@@ -93,7 +93,7 @@ pub read_off-found : (rows : Holding) (found : Option LongestElement) → ((i : 
     → IsBeyond (integer_matrix rows.elements.matrix) rows.limit (word_at rows.elements.members i) → ⊥)
     → IfSome found (IsReadable rows.elements (HasRow rows) (inverse_limit rows.limit)) → IfSome found (IsReadOff rows)
 read_off-found rows None small none = tt
-read_off-found rows (Some whole) small readable = record { readable = readable; small = small }
+read_off-found rows (Some w0) small readable = record { readable = readable; small = small }
 
 -- rows that were taken out of a workspace with this group: y and w have these numbers among their members
 pub record AreTaken (G : CoxeterMatrix) (limits : Limits) (y w : List ℕ) (ends : Ends) (rows : Holding) : Type 0 where

@@ -30,11 +30,13 @@ module _ {X : Type 0} (Old New : Refusal → Type 0) (more : (why : Refusal) →
   Makes-unkept Holds kept Is (Refused why) keeps = more why keeps
   Makes-unkept Holds kept Is NoMemory keeps = tt
 
-  pub Makes-unfound : {Y : Type 0} (Was : X → Type 0) (Is : Y → Type 0) (why : Unanswered) → Finds (Err why) Old Was → Makes (Err why) New Is
+  pub Makes-unfound : {Y : Type 0} (Was : X → Type 0) (Is : Y → Type 0) (why : Unanswered)
+      → Finds (Err why) Old Was → Makes (Err why) New Is
   Makes-unfound Was Is (Refused why) finds = more why finds
   Makes-unfound Was Is NoMemory finds = tt
 
-  pub Makes-unmade : {Y : Type 0} (Was : X → Type 0) (Is : Y → Type 0) (why : Unanswered) → Makes (Err why) Old Was → Makes (Err why) New Is
+  pub Makes-unmade : {Y : Type 0} (Was : X → Type 0) (Is : Y → Type 0) (why : Unanswered)
+      → Makes (Err why) Old Was → Makes (Err why) New Is
   Makes-unmade Was Is (Refused why) makes = more why makes
   Makes-unmade Was Is NoMemory makes = tt
 
@@ -51,6 +53,7 @@ Keeps-unkept Refuses Was Holds kept (Refused why) keeps = keeps
 Keeps-unkept Refuses Was Holds kept NoMemory keeps = tt
 
 -- each command on the whole group is refused as its rows are
-pub group-refuses : (kind : NoWord) (limits : Limits) (A : IntegerMatrix) → (group_question kind limits A).Refuses ≡ RefusesGroupRows limits A
+pub group-refuses : (kind : NoWord) (limits : Limits) (A : IntegerMatrix)
+    → (group_question kind limits A).Refuses ≡ RefusesGroupRows limits A
 group-refuses Lwgraph limits A = refl
 group-refuses _ limits A = refl

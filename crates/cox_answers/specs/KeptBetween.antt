@@ -44,8 +44,8 @@ IsFaultOfOne e limit numbers fault = (k : ℕ) × (k < length numbers)
 
 -- inverse polynomials may be read off the rows: all of a finite group are held, none is beyond its limits, and no coefficient is above the
 -- limit of inverse polynomials
-pub record IsReadOff (rows : Holding) (whole : LongestElement) : Type 0 where
-  pub readable : IsReadable rows.elements (HasRow rows) (inverse_limit rows.limit) whole
+pub record IsReadOff (rows : Holding) (w0 : LongestElement) : Type 0 where
+  pub readable : IsReadable rows.elements (HasRow rows) (inverse_limit rows.limit) w0
   pub small : (i : ℕ) → i < length rows.elements.members
       → ¬ IsBeyond (integer_matrix rows.elements.matrix) rows.limit (word_at rows.elements.members i)
 

@@ -1,7 +1,8 @@
-//! The lines that commands on elements, or on the whole group, answer: what a command needs is found, or made, and the answer is put from it.
+//! The lines that commands on elements, or on the whole group, answer: what a command needs is found, or made, and the answer is put from
+//! it.
 //!
 //! - `finding`: what a command needs, found or made
-//! - `ahead`: rows that are made before they are asked for
+//! - `prefetch`: rows that are made before they are asked for
 //! - `kept`: the rows that a session keeps
 //! - `kept_group`: those of a whole group
 //! - `between`: those of the elements between two
@@ -24,13 +25,13 @@ ghost use Rattle.cox_replies.specs.InquiryQuestion.{IsOrderText, IsRowText, IsEn
 ghost use Rattle.cox_replies.specs.Putting.{PutsUnless, IsEnded};
 ghost use Rattle.cox_answers.specs.Needs.{Answers, IsEnough, IsRowOf, HasRowOf};
 
-pub(crate) mod ahead;
 pub(crate) mod between;
 mod finding;
 pub(crate) mod generated;
 mod inverse;
 pub(crate) mod kept;
 pub(crate) mod kept_group;
+pub(crate) mod prefetch;
 
 use crate::needs::{Found, need_of};
 use crate::row_maker::RowMaker;
@@ -45,8 +46,8 @@ use cox_replies::{
 };
 
 impl Workspace {
-    /// Puts the text that answers a command on elements, or on the whole group, with the end of its last line. A refusal puts nothing; where
-    /// memory runs out a prefix of the text may stand there.
+    /// Puts the text that answers a command on elements, or on the whole group, with the end of its last line. A refusal puts nothing;
+    /// where memory runs out a prefix of the text may stand there.
     pub fn put_answer<M: RowMaker>(
         &mut self,
         maker: &M,

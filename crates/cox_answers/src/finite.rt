@@ -8,8 +8,8 @@ ghost use Rattle.cox_base.specs.Descents.{right_descents};
 use cox_base::{MAX_LETTERS, MAX_RANK, Word};
 use cox_minroots::RootTable;
 
-/// How many letters the longest element has at most in a finite group of at most `MAX_MEMBERS` elements: in B 7, of 645,120 elements, it has
-/// 49. It only saves tries that would fail.
+/// How many letters the longest element has at most in a finite group of at most `MAX_MEMBERS` elements: in B 7, of 645,120 elements, it
+/// has 49. It only saves tries that would fail.
 const MOST_LETTERS: usize = 49;
 
 /// A word with all letters among its right descents, found by adding letters that are not: the longest element of a finite group.

@@ -1,10 +1,12 @@
 //! When the whole group is taken in the place of interval after interval.
 ghost use Rattle.std.specs.Prelude.{◌≤◌, IfSome};
 
-/// With so many members the whole group is tried for the first time.
-const FIRST_TRY: u32 = 4096;
+/// With so many members the whole group is tried for the first time. With fewer there is little to save: rows are cheap, and so is each
+/// growth of the context.
+const FIRST_TRY: u32 = 4_096;
 
-/// The whole group is taken if it has at most so many times as many elements as there are members.
+/// The whole group is taken if it has at most so many times as many elements as there are members. Then what is kept is a good part of it,
+/// and a try that fails has made at most so many elements for each member.
 const TIMES: u32 = 16;
 
 /// When the whole group is tried: with 4,096 members, and then each time there are twice as many.
@@ -23,8 +25,8 @@ impl WholeGroupPolicy {
         WholeGroupPolicy { due: FIRST_TRY }
     }
 
-    /// How many elements the group may have that is to be tried now, with so many members; `None` if none is to be tried. A group that is to
-    /// be tried counts as tried.
+    /// How many elements the group may have that is to be tried now, with so many members; `None` if none is to be tried. A group that is
+    /// to be tried counts as tried.
     pub fn next_try(&mut self, members: u32, limit: u32) -> Option<u32>
         requires { 1 ≤ limit }
         ensures some { IfSome result (λ n. 1 ≤ n) }

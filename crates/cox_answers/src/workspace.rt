@@ -1,9 +1,9 @@
 //! What commands on elements work with.
 
-use crate::answers::ahead::{is_on_interval, with_asked};
 use crate::answers::between::{ensure_each, is_large, with_rows};
 use crate::answers::kept::{add_interval, keep_interval, widen, with_row};
 use crate::answers::kept_group::{holds_group, keep_elements, with_all};
+use crate::answers::prefetch::{is_on_interval, with_asked};
 use crate::faults::unless_fault;
 use crate::finite::{longest_of_few, longest_word};
 use crate::kept_rows::KeptRows;
@@ -20,17 +20,14 @@ use cox_rows::Rows;
 use std::alloc::{AllocError, Global};
 use std::marker::Model;
 
-/// What commands on elements work with: the group that is set, by its small roots, the options of the session, and the rows that were made
-/// so far.
+/// The group that is set, by its small roots, the options of the session, and the rows that were made so far.
 ///
 /// Which rows are kept shows in no answer.
 #[derive(Drop)]
 pub struct Workspace {
     table: RootTable,
     options: Options,
-    // Rows of the group, and what is known of all of them.
     kept: KeptRows,
-    // When the whole group is tried.
     policy: WholeGroupPolicy,
 }
 
@@ -145,7 +142,7 @@ impl Workspace {
         self.make_row(maker, alloc, i)
     }
 
-    /// Sees to it that the row of the member with the number i is kept. The members stay, and the number is told again.
+    /// Sees to it that the row of the member with the number i is kept. The members stay, and the number is returned.
     pub(crate) fn make_row<M: RowMaker>(
         &mut self,
         maker: &M,
@@ -255,8 +252,7 @@ impl Workspace {
         }
     }
 
-    /// Sees to it that the rows of all z with y <= z <= w are kept, where y <= w, and these are their numbers. It
-    /// tells what numbers they have then.
+    /// Sees to it that the rows of all z with y <= z <= w are kept, where y <= w have these numbers. Returns their numbers then.
     pub(crate) fn keep_between<M: RowMaker>(
         &mut self,
         maker: &M,
@@ -294,7 +290,7 @@ impl Workspace {
     }
 
     /// Makes the rows of the whole group, where there are many members between y and w, and it is finite. Where these are refused, it is as
-    /// if they had not been asked for. The numbers of y and w are told again.
+    /// if they had not been asked for. The numbers of y and w are returned.
     fn gather<M: RowMaker>(
         &mut self,
         maker: &M,
@@ -380,8 +376,7 @@ impl Workspace {
         add_interval(alloc, self.kept.change(), &self.table, self.options, w)
     }
 
-    /// Makes the rows of members that the commands ask for, and looks whether inverse polynomials can be read off those that are kept, if
-    /// they are asked for.
+    /// Makes the rows of members that the commands ask for. If they ask for inverse polynomials, it looks whether these can be read off.
     pub(crate) fn make_rows_ahead<M: RowMaker>(
         &mut self,
         maker: &M,

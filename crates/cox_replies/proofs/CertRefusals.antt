@@ -1,7 +1,7 @@
 -- When a certificate is refused.
 use Rattle.std.proofs.Common.{◌≡◌, ◌⊎◌, ℕ, ◌<◌, ◌≤◌, List, length, None, Some, Result, Ok, Err, min}
 use Rattle.std.proofs.Common.{inl, inr, refl, ⊎_elim, arith, pos}
-use Rattle.std.proofs.Math.Nat.{min-le_left, min-le_right, le-min}
+use Rattle.std.proofs.Math.Nat.{min-le_right, le-min}
 use Rattle.std.proofs.lemmas.Bool.{cases_lt}
 use Rattle.cox_base.specs.IntegerMatrix.{IntegerMatrix}
 use Rattle.cox_base.specs.Length.{word_length}
@@ -17,7 +17,6 @@ use Rattle.cox_replies.specs.declared.unanswered.Unanswered.{Unanswered}
 use Rattle.cox_replies.specs.declared.unanswered.Unanswered.TheVariants.{Refused, NoMemory}
 use Rattle.cox_replies.specs.Limits.{Limits}
 use Rattle.cox_replies.specs.Question.{IsRefused}
-use Rattle.cox_replies.specs.Listed.{RefusesLargeOr}
 use Rattle.cox_replies.specs.RowReply.{RefusesRow}
 use Rattle.cox_replies.specs.CertReply.{RefusesListedOr, RefusesCert}
 use Rattle.cox_replies.specs.Putting.{PutsUnless, Finds}
@@ -25,10 +24,6 @@ use Rattle.cox_replies.proofs.LargeOr.{row-more, large_or-none}
 
 module _ (limits : Limits) (A : IntegerMatrix) (w : List ℕ) where
   -- ---- the members
-
-  -- more than the option's limit is more than the lower one of both limits
-  more-listed : HasMoreThan limits.context (IsInInterval A w) → HasMoreThan (min limits.context MAX_LISTED) (IsInInterval A w)
-  more-listed many = (many.0, many.1, many.2, omega (arith, many.3, min-le_left limits.context MAX_LISTED))
 
   -- a list of too many members
   pub listing-many : (words : List (List ℕ)) → IsListOf (IsInInterval A w) words → MAX_LISTED < length words
@@ -84,14 +79,6 @@ module _ (limits : Limits) (A : IntegerMatrix) (w : List ℕ) where
   pub cert-listing : (why : Refusal) → IsRefused (RefusesListedOr limits A w ⊥) (Some why) → IsRefused (RefusesCert limits A w) (Some why)
   cert-listing = row-more (HasMoreThan (min limits.context MAX_LISTED) (IsInInterval A w)) (MAX_DIFFERENCE < word_length A w)
       (NeedsBeyond A (pos limits.coefficient) w ⊎ IsBeyond A MAX_CHECKED_COEFFICIENT w)
-
-  -- a large interval
-  pub cert-interval : (why : Refusal) → IsRefused (RefusesLargeOr limits A w ⊥) (Some why) → IsRefused (RefusesCert limits A w) (Some why)
-  cert-interval why (inl (none, e)) = absurd none
-  cert-interval why (inr (none, inl (many, e))) = inr (none, inl (more-listed many, e))
-  cert-interval why (inr (none, inr (few, inl (far, e)))) = absurd far
-  cert-interval why (inr (none, inr (few, inr (near, inl (beyond, e))))) = absurd beyond
-  cert-interval why (inr (none, inr (few, inr (near, inr (small, e))))) = absurd (cc e)
 
   -- what nothing refuses
   pub listing-none : IsRefused (RefusesListedOr limits A w ⊥) None

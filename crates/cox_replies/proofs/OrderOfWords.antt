@@ -71,7 +71,8 @@ next-rising members next i j less within = go (j - i - 1) j (omega (arith, less)
 -- numbers that are distinct stay so in another order
 pub distinct-permuted : (old new : List ℕ) → IsPermutation old new → AllPairs (λ x y. x ≢ y) old → AllPairs (λ x y. x ≢ y) new
 distinct-permuted old new moved distinct =
-    AllPairs-from_IsDistinct Decides-eqb new (IsDistinct-IsPermutation eqb flips old new moved (IsDistinct-from_AllPairs Decides-eqb old distinct))
+    AllPairs-from_IsDistinct Decides-eqb new
+    (IsDistinct-IsPermutation eqb flips old new moved (IsDistinct-from_AllPairs Decides-eqb old distinct))
   where
     flips : (x y : ℕ) → eqb x y ≡ eqb y x
     flips x y = grind (arith, nat_tests)
@@ -83,7 +84,8 @@ module _ (A : IntegerMatrix) (g : IsAdmissible A) (members : List (List ℕ)) (c
   pub differ-words : (numbers : List ℕ) → All (λ x. x < length members) numbers → AllPairs (λ x y. x ≢ y) numbers
       → AllPairs (λ x y. word_at members x ≢ word_at members y) numbers
   differ-words numbers within distinct i j d less l =
-      λ e. distinct i j d less l (closed.distinct (get_or numbers i d) (get_or numbers j d) (within i d (omega (arith, less, l))) (within j d l) e)
+      λ e. distinct i j d less l
+      (closed.distinct (get_or numbers i d) (get_or numbers j d) (within i d (omega (arith, less, l))) (within j d l) e)
 
   -- a member begins with its least left descent
   pub first-descent : (i lower s : ℕ) → i < length members → IsLeastLeftDescent A (word_at members i) s

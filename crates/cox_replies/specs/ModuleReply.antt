@@ -21,13 +21,13 @@ entry_text Square = codes "v^2"
 entry_text (Half m) = factor_text 1 m ++ codes "v"
 
 -- a term: the element at its place of the cell, and its coefficient
-abbrev pub term_text : ℕ → List (List ℕ) → Term → List ℕ
-term_text rank cell t = (codes " " ++ element_text rank (word_at cell t.place) ++ codes "=") ++ entry_text t.entry
+abbrev pub image_term_text : ℕ → List (List ℕ) → Term → List ℕ
+image_term_text rank cell t = (codes " " ++ element_text rank (word_at cell t.place) ++ codes "=") ++ entry_text t.entry
 
 -- the image of the element x of the cell under the letter s
 abbrev pub image_text : ℕ → List (List ℕ) → ℕ → List ℕ → List Term → List ℕ
 image_text rank cell s x image =
-    (decimal s ++ (codes " " ++ element_text rank x) ++ codes ":") ++ flat_map (term_text rank cell) image
+    (decimal s ++ (codes " " ++ element_text rank x) ++ codes ":") ++ flat_map (image_term_text rank cell) image
 
 -- the images of all elements of the cell under a letter, each behind the end of the line before
 abbrev pub operator_text : ℕ → List (List ℕ) → (ℕ → ℕ → List Term) → ℕ → List ℕ

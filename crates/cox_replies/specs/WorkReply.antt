@@ -6,7 +6,6 @@ use Rattle.std.specs.Int.{int_rem_euclid}
 use Rattle.std.specs.Ordering.{int_eq}
 use Rattle.cox_base.specs.IntegerMatrix.{IntegerMatrix}
 use Rattle.cox_base.specs.Length.{word_length}
-use Rattle.cox_hecke.specs.Family.{Family}
 use Rattle.cox_base.specs.Members.{IsInInterval}
 use Rattle.cox_command.specs.declared.refusal.Refusal.{Refusal}
 use Rattle.cox_command.specs.declared.generated.TheConstants.{WORD_LETTERS}

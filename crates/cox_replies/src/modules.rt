@@ -16,7 +16,7 @@ ghost use Rattle.cox_cells.specs.NumberedCells.{lists_of, list_at};
 ghost use Rattle.cox_module.specs.declared.term.Term.{Term};
 ghost use Rattle.cox_module.specs.Images.{AreImages};
 ghost use Rattle.cox_module.specs.NumberedImages.{cell_words, image_in};
-ghost use Rattle.cox_replies.specs.ModuleReply.{IsModuleText, entry_text, term_text, image_text, operator_text, module_text};
+ghost use Rattle.cox_replies.specs.ModuleReply.{IsModuleText, entry_text, image_term_text, image_text, operator_text, module_text};
 ghost use Rattle.cox_replies.specs.Putting.{PutsSome};
 
 use crate::graphs::put_next_cell;
@@ -177,7 +177,7 @@ fn put_terms(
 ) -> Result<(), NoMemory>
     requires within { All (λ i. i < length context.now.members) cell.now }
     requires terms { All (λ (t : Term). t.place < length cell.now) image.now }
-    ensures { Puts result (flat_map (term_text context.now.matrix.rank (cell_words context.now.members cell.now)) image.now)
+    ensures { Puts result (flat_map (image_term_text context.now.matrix.rank (cell_words context.now.members cell.now)) image.now)
         out.old.items out.new.items }
 {
     for term in image {
@@ -190,7 +190,8 @@ fn put_terms(
 fn put_term(out: &mut Vec<u8>, context: &Context, cell: &[u32], term: Term) -> Result<(), NoMemory>
     requires within { All (λ i. i < length context.now.members) cell.now }
     requires place { term.place < length cell.now }
-    ensures { Puts result (term_text context.now.matrix.rank (cell_words context.now.members cell.now) term) out.old.items out.new.items }
+    ensures { Puts result (image_term_text context.now.matrix.rank (cell_words context.now.members cell.now) term)
+        out.old.items out.new.items }
 {
     let rank = context.matrix().rank();
     prove!(context.len() > 0);

@@ -12,21 +12,21 @@ ghost use Rattle.cox_replies.specs.InverseReply.{inverse_limit};
 use crate::needs::Ends;
 use crate::row_maker::RowMaker;
 use cox_context::Context;
-use cox_inverse::{MAX_COEFFICIENT, LongestElement};
+use cox_inverse::{LongestElement, MAX_COEFFICIENT};
 use cox_klstep::StepFault;
 use cox_rows::Rows;
 use std::alloc::Global;
 
-/// From how many members between two on the rows of the whole group are made, where it is finite. With all of them at hand each inverse
-/// polynomial is read off one row.
-const LARGE: usize = 2_048;
+/// From so many members between two on, the rows of the whole group are made, where it is finite. With all of them at hand each inverse
+/// polynomial is read off one row. Its sums take time in proportion to the square of that number: from there on longer than these rows do.
+const MANY_BETWEEN: usize = 2_048;
 
 /// Whether there are many members between the two with these numbers.
 pub fn is_large(context: &Context, ends: Ends) -> bool
     requires low { ends.low < length context.now.members }
     requires high { ends.high < length context.now.members }
 {
-    if (context.len() as usize) < LARGE {
+    if (context.len() as usize) < MANY_BETWEEN {
         return false;
     }
     let mut count: usize = 0;
@@ -35,7 +35,7 @@ pub fn is_large(context: &Context, ends: Ends) -> bool
             count = count.saturating_add(1);
         }
     }
-    count >= LARGE
+    count >= MANY_BETWEEN
 }
 
 /// Whether the rows of all members are there.

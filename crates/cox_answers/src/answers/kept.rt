@@ -105,6 +105,7 @@ pub fn widen(kept: &mut Option<Rows>, table: &RootTable, options: Options, w: &W
 }
 
 /// Keeps the interval from the identity to w alone, with no rows, and tells the number of w there. What was kept is given up first.
+// fast: inlined, room for the context and the rows would be cleared at each line, also where the row is there
 #[inline(never)]
 fn keep_alone(
     alloc: Global,

@@ -112,11 +112,11 @@ fn is_list_of_group(context: &Context) -> bool
     ensures { IsTrue result → IsListOf (IsElement (integer_matrix context.now.matrix)) context.now.members }
 {
     prove!(context.len() > 0);
-    is_whole(context) && is_in_order(context)
+    covers_group(context) && is_in_order(context)
 }
 
 /// Whether each left shift of each member is a member. Then all elements of the group are members.
-fn is_whole(context: &Context) -> bool
+fn covers_group(context: &Context) -> bool
     ensures { IsTrue result → (i : ℕ) → i < length context.now.members → (s : ℕ) → IsLetter context.now.matrix.rank s
         → Contains context.now.members (normal_form (integer_matrix context.now.matrix) (s ∷ word_at context.now.members i)) }
 {

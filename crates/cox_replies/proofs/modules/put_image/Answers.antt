@@ -9,7 +9,7 @@ use Rattle.cox_row.specs.Rising.{number_at}
 use Rattle.cox_print.specs.AnswerText.{element_text}
 use Rattle.cox_module.specs.NumberedImages.{cell_words}
 use Rattle.cox_module.proofs.CellNumbers.{words-at}
-use Rattle.cox_replies.specs.ModuleReply.{term_text, image_text}
+use Rattle.cox_replies.specs.ModuleReply.{image_term_text, image_text}
 use Rattle.cox_replies.proofs.modules.put_image.Goals as goal
 
 pub returns-in_err-put_end : goal.returns-in_err-put_end
@@ -34,7 +34,7 @@ returns-in_err-put_image_head c =
     let cell = c.args.cell.now in
     let x = word_at members (number_at cell c.args.k) in
     let head = decimal c.args.s ++ (codes " " ++ element_text rank x) ++ codes ":" in
-    let rest = flat_map (term_text rank (cell_words members cell)) c.args.image.now in
+    let rest = flat_map (image_term_text rank (cell_words members cell)) c.args.image.now in
     rw (words-at members cell c.args.k c.requires.place)
     (Puts-second _ (10 ∷ []) (head ++ rest) _ _ _ (c.in_ok-put_end.ensures {u = tt})
     (Puts-first _ head rest _ _ (search rules)
@@ -47,7 +47,7 @@ returns c =
     let cell = c.args.cell.now in
     let x = word_at members (number_at cell c.args.k) in
     let head = decimal c.args.s ++ (codes " " ++ element_text rank x) ++ codes ":" in
-    let rest = flat_map (term_text rank (cell_words members cell)) c.args.image.now in
+    let rest = flat_map (image_term_text rank (cell_words members cell)) c.args.image.now in
     rw (words-at members cell c.args.k c.requires.place)
     (Puts-second _ (10 ∷ []) (head ++ rest) _ _ _ (c.in_ok-put_end.ensures {u = tt})
     (Puts-second _ head rest _ _ _

@@ -96,7 +96,8 @@ polynomial-requires c =
     let itself : IsBelow (integer_matrix c.context-context.result.now.matrix) bottom bottom
     = rw (matrix at) (below-refl (integer_matrix c.args.rows.now.elements.matrix) (admissible at)
     (same-refl (integer_matrix c.args.rows.now.elements.matrix) (admissible at) bottom)) in
-    let found = (c.in-Ok.ensures {u = tt}).row.between.whole low (rw c.context-context.ensures.context c.requires.held.numbers.low.0) itself (ends at) in
+    let found = (c.in-Ok.ensures {u = tt}).row.between.whole low
+    (rw c.context-context.ensures.context c.requires.held.numbers.low.0) itself (ends at) in
     subst (Contains c.in-Ok.row.numbers) found.2 (Contains-get_or c.in-Ok.row.numbers found.0 0 found.1)
 
 pub returns-in-Ok : goal.returns-in-Ok
@@ -104,8 +105,8 @@ returns-in-Ok c =
     let fits : FitsSigned w64 c.inverse_limit-limit.result = search rules in
     let at = (goal.at.returns-in-Ok c).After-inverse_limit-limit in
     let told = c.in-Ok.ensures {u = tt} in
-    rw c.unrefused-in-Ok.ensures (PutsUnless-inverse (limits_of c.args.options) (integer_matrix c.args.rows.now.elements.matrix) (admissible at)
-    c.args.y.now.items c.args.w.now.items _ _ (bottom at) (top at) _ _ _ _ c.requires.free
+    rw c.unrefused-in-Ok.ensures (PutsUnless-inverse (limits_of c.args.options) (integer_matrix c.args.rows.now.elements.matrix)
+    (admissible at) c.args.y.now.items c.args.w.now.items _ _ (bottom at) (top at) _ _ _ _ c.requires.free
     (rw (matrix at, to_z-of_z w64 c.inverse_limit-limit.result fits, limit at) at told.within)
     (rw (matrix at) at (c.polynomial.ensures c.context-context.result.now c.args.ends.low c.args.ends.high _ told.row))
     c.put_text-in-Ok.ensures)

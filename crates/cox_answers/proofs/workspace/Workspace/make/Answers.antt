@@ -30,7 +30,8 @@ returns-in_err-make_certified-in-Certified-clause-made g c =
     let from = c.from_residual-in_err-make_certified-in-Certified in
     let p = err_from_is_err_and from.result from.ensures.1 in
     rw (p.1, p.2, c.in-Certified.is) (Makes-unmade (RefusesCert limits A w) (RefusesCert limits A w) (λ why refused. refused) _ _
-    c.in_err-make_certified-in-Certified.field-0.0 (rw (c.in_err-make_certified-in-Certified.was {u = tt}) at c.make_certified.ensures.made))
+    c.in_err-make_certified-in-Certified.field-0.0
+    (rw (c.in_err-make_certified-in-Certified.was {u = tt}) at c.make_certified.ensures.made))
 
 pub returns-in-Between-clause-made : goal.returns-in-Between-clause-made
 returns-in-Between-clause-made g c = rw c.in-Between.is c.make_between.ensures.made

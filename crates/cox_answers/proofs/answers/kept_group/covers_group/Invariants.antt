@@ -1,10 +1,10 @@
--- What the loop of `is_whole` keeps.
+-- What the loop of `covers_group` keeps.
 use Rattle.std.proofs.Common.{ℕ, ◌<◌, ◌∷◌, Contains}
 use Rattle.cox_base.specs.Matrix.{IsLetter}
 use Rattle.cox_base.specs.IntegerMatrix.{integer_matrix}
 use Rattle.cox_base.specs.ShortLex.{normal_form}
 use Rattle.cox_context.specs.Numbers.{word_at}
-use Rattle.cox_answers.proofs.answers.kept_group.is_whole.Given as goal
+use Rattle.cox_answers.proofs.answers.kept_group.covers_group.Given as goal
 
 abbrev pub invariant-loop-i : goal.invariant-loop-i
 invariant-loop-i l = (k : ℕ) → k < l.i → (s : ℕ) → IsLetter l.context.matrix.rank s

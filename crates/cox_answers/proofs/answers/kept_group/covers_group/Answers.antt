@@ -1,7 +1,7 @@
--- The proof of `is_whole`.
+-- The proof of `covers_group`.
 use Rattle.std.proofs.Common.{◌≡◌, arith, ⊎_elim}
 use Rattle.std.proofs.lemmas.Bool.{cases_eq}
-use Rattle.cox_answers.proofs.answers.kept_group.is_whole.Goals as goal
+use Rattle.cox_answers.proofs.answers.kept_group.covers_group.Goals as goal
 
 pub loop-i-preserved : goal.loop-i-preserved
 loop-i-preserved c = λ k below s letter. ⊎_elim
