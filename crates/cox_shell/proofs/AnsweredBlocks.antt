@@ -1,7 +1,7 @@
 -- What several lines and blocks are answered.
 use Rattle.std.proofs.Common.{◌≡◌, ℕ, suc, ◌+◌, ◌<◌, ◌≤◌, List, [], ◌∷◌, ◌++◌, Option, None, Some, length, drop, get_or, refl, sym, ap}
 use Rattle.std.proofs.Common.{◌∙◌, subst, arith, append_assoc}
-use Rattle.std.specs.Option.{option_map, IsSomeAnd}
+use Rattle.std.specs.Option.{option_map}
 use Rattle.std.specs.List.{filter_map, cons_option, slice_get}
 use Rattle.std.proofs.lemmas.List.{append-nil, drop_all}
 use Rattle.std.proofs.lemmas.List.Elements.{filter_map-append}
@@ -9,14 +9,11 @@ use Rattle.std.proofs.lemmas.Grind.{flat_map-append}
 use Rattle.std.proofs.Math.Seq.{drop-cons}
 use Rattle.cox_command.specs.declared.refusal.Refusal.{Refusal}
 use Rattle.cox_command.specs.RefusalNumber.{refusal_number}
-use Rattle.cox_shell.specs.declared.session.Said.{Said}
-use Rattle.cox_shell.specs.declared.session.Said.TheVariants.{Answered, Refused, Quit}
 use Rattle.cox_shell.specs.Reply.{Kept, State, Reply, closed}
 use Rattle.cox_shell.specs.OpenLists.{kept_lines}
 use Rattle.cox_shell.specs.Blocks.{AreKeptReplies}
-use Rattle.cox_shell.specs.AnsweredText.{Numbered, numbered, numbered_by, no_text, first_number, then_numbered, number_said}
+use Rattle.cox_shell.specs.AnsweredText.{Numbered, numbered, numbered_by, no_text, first_number, then_numbered}
 use Rattle.cox_shell.specs.AnsweredText.{AnswersLine, AnswersBlock, AnswersBlocks, AnswersList}
-use Rattle.cox_shell.specs.Saying.{IsSaid}
 
 first_number-none : (a : Option ℕ) → first_number a None ≡ a
 first_number-none None = refl
@@ -66,16 +63,6 @@ next_of list i d within = drop-cons list i d within ∙ ap (λ n. get_or list i 
   where
     same : (n : ℕ) → suc n ≡ n + 1
     same n = omega arith
-
--- the number that is said of a reply
-pub number_said-is : (said : Said) (reply : Reply) → IsSaid said reply → number_said said ≡ option_map refusal_number reply.refused
-number_said-is Answered reply is = sym (ap (option_map refusal_number) is.0)
-number_said-is (Refused number) reply is = of_some reply.refused is.0
-  where
-    of_some : (o : Option Refusal) → IsSomeAnd o (λ why. number ≡ refusal_number why) → Some number ≡ option_map refusal_number o
-    of_some None is = absurd is
-    of_some (Some why) is = ap Some is
-number_said-is Quit reply is = sym (ap (option_map refusal_number) is.0)
 
 -- the replies to some lines, and then to others
 pub both_replies : (state : State) (first rest : List Kept) (p q : List Reply) → AreKeptReplies state first p → AreKeptReplies state rest q

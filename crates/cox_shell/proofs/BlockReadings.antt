@@ -1,8 +1,7 @@
 -- What a line of a block gives, by the command that its tokens give or by their refusal; and the reply to it.
-use Rattle.std.proofs.Common.{◌≡◌, ℕ, Bool, true, false, List, [], ◌∷◌, Option, Some, None, MatchOption, Result, Ok}
-use Rattle.std.proofs.Common.{refl, sym, ap, ◌∙◌, subst, codes, bytes_eq}
-use Rattle.std.specs.Option.{option_map, option_or, unwrap_or}
-use Rattle.std.proofs.lemmas.Slice.Eq.{bytes_eq-Decides}
+use Rattle.std.proofs.Common.{◌≡◌, ℕ, List, [], ◌∷◌, Option, Some, None, MatchOption, Result, Ok}
+use Rattle.std.proofs.Common.{refl, sym, ap, ◌∙◌, subst}
+use Rattle.std.specs.Option.{option_map, option_or}
 use Rattle.cox_tokens.specs.Tokens.{tokens_of}
 use Rattle.cox_command.specs.declared.refusal.Refusal.{Refusal}
 use Rattle.cox_command.specs.declared.refusal.Refusal.TheVariants.{UnknownCommand}
@@ -16,7 +15,7 @@ use Rattle.cox_command.specs.CommandWord.{command_word_of}
 use Rattle.cox_command.specs.LineRefusal.{line_refusal}
 use Rattle.cox_command.specs.CommandReading.{command_by, command_of}
 use Rattle.cox_command.specs.ParseContract.{ParsesAs}
-use Rattle.cox_command.specs.BlockLines.{word_refusal, block_refusal, list_word_of}
+use Rattle.cox_command.specs.BlockLines.{word_refusal, block_refusal}
 use Rattle.cox_shell.specs.declared.block_line.BlockLine.{BlockLine}
 use Rattle.cox_shell.specs.declared.block_line.BlockLine.TheVariants.{Blank, Ask, Refused}
 use Rattle.cox_shell.specs.Reply.{Kept, State, Reply, rank_of, refusal}
@@ -53,35 +52,12 @@ block_refusal-command (name ∷ arguments) rank what given = by_name (command_wo
   by_name (Some verb) given =
       let same : command_by verb arguments rank ≡ what = cc given in by_word verb name arguments rank ∙ ap refusal_by same
 
--- a line that gives a command does not part the list
-pub list_word-command : (tokens : List (List ℕ)) (rank : Option ℕ) (what : Command) → command_of tokens rank ≡ Some what
-    → list_word_of tokens ≡ None
-list_word-command [] rank what given = refl
-list_word-command (name ∷ first ∷ arguments) rank what given = refl
-list_word-command (name ∷ []) rank what given = by_next (bytes_eq name (codes "next")) refl where
-  none : (token : List ℕ) → command_word_of token ≡ None → name ≡ token → ⊥
-  none token no_word same =
-      absurd (cc (sym given ∙ ap (option_map (λ verb. command_by verb [] rank)) (ap command_word_of same ∙ no_word)))
-
-  by_next : (b : Bool) → bytes_eq name (codes "next") ≡ b → list_word_of (name ∷ []) ≡ None
-  by_next true e = absurd (none (codes "next") refl ((bytes_eq-Decides name (codes "next")).0 e))
-  by_next false e = by_end (bytes_eq name (codes "end")) refl where
-    by_end : (b : Bool) → bytes_eq name (codes "end") ≡ b → list_word_of (name ∷ []) ≡ None
-    by_end true f = absurd (none (codes "end") refl ((bytes_eq-Decides name (codes "end")).0 f))
-    by_end false f = rw (e, f) refl
-
 -- a line that is parsed as a command on elements gives that, unless it may not stand in a block
 pub parsed-asks : (result : Result Command LineFault) (line : List ℕ) (rank : Option ℕ) (inquiry : Inquiry)
     → result ≡ Ok (command.Ask inquiry) → ParsesAs result line rank → Gives (Ask inquiry) line rank
 parsed-asks result line rank inquiry is parses =
     let read : ParsesAs (Ok (command.Ask inquiry)) line rank = subst (λ r. ParsesAs r line rank) is parses in
     (block_refusal-command (tokens_of line) rank (command.Ask inquiry) read.1, read.0, read.1, read.2)
-
--- the first of two refusals is one where the second is
-pub first-refusal : (first second : Option Refusal) (why : Refusal) → second ≡ Some why
-    → option_or first second ≡ Some (unwrap_or first why)
-first-refusal None second why is = is
-first-refusal (Some other) second why is = refl
 
 -- no value is there
 pub none_of : {X : Type 0} (o : Option X) → ((x : X) → o ≡ Some x → ⊥) → o ≡ None

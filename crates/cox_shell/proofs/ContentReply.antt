@@ -63,7 +63,8 @@ pub IsContentReply-unique : (state : State) (content : List ℕ) → HasMatrix s
     → IsContentReply state content other → one ≡ other
 unfolding IsContentReply
 IsContentReply-unique state content matrix one other p q =
-    by_refusal (line_refusal (tokens_of content) (rank_of state)) (command_of (tokens_of content) (rank_of state)) state matrix one other p q
+    by_refusal (line_refusal (tokens_of content) (rank_of state)) (command_of (tokens_of content) (rank_of state)) state matrix one other
+    p q
 
 -- the reply to the command that a content gives
 pub IsContentReply-command : (state : State) (content : List ℕ) (command : Command) (reply : Reply)
@@ -73,7 +74,7 @@ unfolding IsContentReply
 IsContentReply-command state content command reply accepted given is = rw (accepted, given) is
 
 -- the reply to a content that is refused
-pub IsContentReply-refusal : (state : State) (content : List ℕ) (why : Refusal) → line_refusal (tokens_of content) (rank_of state) ≡ Some why
-    → IsContentReply state content (refusal state why)
+pub IsContentReply-refusal : (state : State) (content : List ℕ) (why : Refusal)
+    → line_refusal (tokens_of content) (rank_of state) ≡ Some why → IsContentReply state content (refusal state why)
 unfolding IsContentReply
 IsContentReply-refusal state content why refused = rw refused

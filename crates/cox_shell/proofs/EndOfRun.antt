@@ -1,4 +1,5 @@
--- How a run over the lines that has come so far ends.
+-- How a run over the lines of a script ends, and what was written of the answer by then: at the end of the input, at a line that ends
+-- the run, at the limit, at a read that fails, or where a reply is cut off.
 use Rattle.std.proofs.Common.{◌≡◌, ◌<◌, ◌≤◌, ◌+◌, ℕ, Bool, true, false, cond, nat_le, inl, inr, Option, Some, None, Err}
 use Rattle.std.proofs.Common.{List, [], ◌∷◌, ◌++◌}
 use Rattle.std.proofs.Common.{length, take, refl, sym, ap, ◌∙◌, subst, arith, append_assoc, length-append, ◌⊎◌, ⊎_elim}
@@ -33,7 +34,7 @@ use Rattle.cox_shell.proofs.KnownValues.{IfSome-made, IfSome-each, IfSome-follow
 use Rattle.cox_shell.proofs.LineReplies.{AreReplies-one, AreReplies-quit}
 use Rattle.cox_shell.proofs.NoLines.{no_lines-end}
 use Rattle.cox_shell.proofs.TakenLines.{TakenLines, TakenLines-one, TakenLines-append, HasRead-taken, HasRead-begun, HasRead-limit}
-use Rattle.cox_shell.proofs.KeptStates.{none-kept, reply-kept, Steps, served-steps}
+use Rattle.cox_shell.proofs.KeptStates.{none-kept, reply-kept, IsServedIn, served-kept}
 use Rattle.cox_shell.proofs.Quitting.{quits-closed}
 use Rattle.cox_shell.proofs.Progress.{state_behind-push}
 use Rattle.cox_shell.proofs.Progress.{Progress, going_lines, texts-push, has_refusal-push, has_quit-push, as_many-push}
@@ -151,9 +152,9 @@ StopsThere-taken lines replies halt old now t as_many = record {
   few (Some halt) t = omega (arith, ap length (t.none_pending refl))
 
 -- a line ended the run
-ends_at_step : (refused : Bool) (old now next : Stand) → now.stop ≡ None → (p : Progress refused old now)
-    → Steps false true (state_behind old.state p.done) now next → AnswersAll refused old next
-ends_at_step refused old now next going p s =
+ends_in_state : (refused : Bool) (old now next : Stand) → now.stop ≡ None → (p : Progress refused old now)
+    → IsServedIn false true (state_behind old.state p.done) now next → AnswersAll refused old next
+ends_in_state refused old now next going p s =
     let lines : List (List ℕ) = p.lines ++ s.line ∷ [] in
     let replies : List Reply = p.done ++ s.reply ∷ [] in
     let read : TakenLines lines next.stop old.ahead next.ahead = TakenLines-append p.lines
@@ -188,12 +189,13 @@ ends_at_step refused old now next going p s =
     } where
       all : (more : List (List ℕ)) → AreReplies old.state ((p.lines ++ s.line ∷ []) ++ more) (p.done ++ s.reply ∷ [])
       all more = subst (λ lines. AreReplies old.state lines (p.done ++ s.reply ∷ [])) (sym (append_assoc p.lines (s.line ∷ []) more))
-          (p.says (s.line ∷ more) (s.reply ∷ []) (AreReplies-quit (state_behind old.state p.done) s.line s.reply more s.is_reply s.quitting))
+          (p.says (s.line ∷ more) (s.reply ∷ [])
+          (AreReplies-quit (state_behind old.state p.done) s.line s.reply more s.is_reply s.quitting))
 
 pub ends_at_quit : (refused : Bool) (old now next : Stand) → now.stop ≡ None → Progress refused old now → IsServed false true now next
     → AnswersAll refused old next
-ends_at_quit refused old now next going p served = ends_at_step refused old now next going p
-    (served-steps false true (state_behind old.state p.done) now next p.behind served)
+ends_at_quit refused old now next going p served = ends_in_state refused old now next going p
+    (served-kept false true (state_behind old.state p.done) now next p.behind served)
 
 -- the lines so far are those that end among the bytes so far and the beginning of a line
 ended_so_far : (refused : Bool) (old now next : Stand) (p : Progress refused old now) (read : TakenLines p.lines None old.ahead now.ahead)

@@ -30,7 +30,8 @@ HasMatrix state = IfSome state.group IsCoxeterMatrix
 
 -- what holds of refusals and of answers holds of the reply to a command on elements
 pub IsInquiryReply-all : (inquiry : Inquiry) (state : State) (P : Reply → Type 0) → ((why : Refusal) → P (refusal state why))
-    → ((text : List ℕ) → P (record (silence state) { text = text ++ 10 ∷ [] })) → (reply : Reply) → IsInquiryReply inquiry state reply → P reply
+    → ((text : List ℕ) → P (record (silence state) { text = text ++ 10 ∷ [] })) → (reply : Reply) → IsInquiryReply inquiry state reply
+    → P reply
 IsInquiryReply-all inquiry state P refused answer reply is = of_some state.group _ (P reply) (λ g set decided.
     let question = question_of inquiry state.limits g in
     IsDecided-all question.Refuses state (Answers state question) P refused
@@ -53,8 +54,8 @@ module _ (state : State) (matrix : HasMatrix state) (reply : Reply) where
   by_command Jobs tokens accepted given is = rw is matrix
   by_command (Ask inquiry) tokens accepted given is = unchanged (IsInquiryReply-state inquiry state reply is)
   by_command (Group g) tokens accepted given is =
-      IsDecided-all (RefusesGroup state.limits g) state (λ answer. answer ≡ silence (record state { group = Some g })) (λ r. HasMatrix r.after)
-      (λ why. matrix)
+      IsDecided-all (RefusesGroup state.limits g) state (λ answer. answer ≡ silence (record state { group = Some g }))
+      (λ r. HasMatrix r.after) (λ why. matrix)
       (λ r answer. rw answer (of_tokens tokens accepted given)) reply is
     where
       by_name : (o : Option CommandWord) (arguments : List (List ℕ)) → command_refusal o arguments (rank_of state) ≡ None

@@ -94,12 +94,6 @@ bounded-line list line short = (
   omega (arith, count-line list line, few_lines list short),
 )
 
-pub bounded-block : (list : OpenList) → is_long list ≡ false → IsBounded (then_block list)
-bounded-block list short = (
-  omega (arith, length-append list ([] ∷ []), few_blocks list short),
-  omega (arith, count-push list [], few_lines list short),
-)
-
 -- so is one to which a line was added, or for which there was no memory
 pub bounded-added : (result : Result Unit AllocError) (old new : OpenList) (line : Kept) → 0 < length old → IsBounded old
     → is_long old ≡ false → OnOk result (new ≡ then_line old line) → OnErr result (new ≡ old) → (0 < length new) × IsBounded new

@@ -134,7 +134,8 @@ module _ (kept state : State) (keeps : KeepsState kept state) where
     by_word (Some End) is = (reply, list-reply l m which reply is, itself reply)
 
   -- the reply to a line by what is kept is like the reply to it
-  pub reply-kept : (line : List ℕ) (reply : Reply) → IsReply kept line reply → (other : Reply) × IsReply state line other × IsLike reply other
+  pub reply-kept : (line : List ℕ) (reply : Reply) → IsReply kept line reply
+      → (other : Reply) × IsReply state line other × IsLike reply other
   reply-kept line reply is =
       by_lists kept.list state.list refl refl keeps.list (content_refusal (content_of line)) is where
         content : List ℕ
@@ -159,8 +160,8 @@ module _ (kept state : State) (keeps : KeepsState kept state) where
 
 -- ---- lines that were served
 
--- a line was taken and its reply written: the reply in this state, which the session keeps
-pub record Steps (refused quits : Bool) (state : State) (old new : Stand) : Type 0 where
+-- A line was taken and its reply written: it is the reply in this state, and the session keeps the state after it.
+pub record IsServedIn (refused quits : Bool) (state : State) (old new : Stand) : Type 0 where
   pub line : List ℕ
   pub takes : TakesNext new.stop line old.ahead new.ahead
   pub reply : Reply
@@ -170,9 +171,9 @@ pub record Steps (refused quits : Bool) (state : State) (old new : Stand) : Type
   pub refuses : is_some reply.refused ≡ refused
   pub quitting : reply.quits ≡ quits
 
-pub served-steps : (refused quits : Bool) (state : State) (old new : Stand) → KeepsState old.state state → IsServed refused quits old new
-    → Steps refused quits state old new
-served-steps refused quits state old new keeps s =
+pub served-kept : (refused quits : Bool) (state : State) (old new : Stand) → KeepsState old.state state → IsServed refused quits old new
+    → IsServedIn refused quits state old new
+served-kept refused quits state old new keeps s =
     let p = reply-kept old.state state keeps s.taken.line s.reply s.taken.is_reply in
     record {
       line = s.taken.line;

@@ -18,8 +18,14 @@ pub mod EndOfRun
 pub mod KnownValues
 -- what a whole run has written, by the run over the lines
 pub mod WrittenByRun
+-- what is due of a whole run, and was written
+pub mod DueByRun
+-- the contract of a whole run that reads nothing
+pub mod UnreadRuns
 -- the contract of a whole run
 pub mod RunContract
+-- whole runs without faults
+pub mod UnhinderedRuns
 -- runs that met the limit
 pub mod LimitedRuns
 -- rows that come back from a store
@@ -52,7 +58,7 @@ pub mod Quitting
 pub mod AnsweredBlocks
 -- lines that are kept
 pub mod KeptLines
--- how many lines blocks have
+-- how many blocks and lines a list has that is not too long
 pub mod Counts
 -- the replies where a list is open, and where none is
 pub mod OpenListReplies

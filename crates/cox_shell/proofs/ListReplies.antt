@@ -61,10 +61,11 @@ IsListReply-unique state matrix list one other p q = by_test (is_long list) p q 
   by_test : (b : Bool) → MatchBool b (one ≡ refusal (closed state) LongList)
       ((replies : List Reply) × AreKeptReplies (closed state) (kept_lines list) replies × (one ≡ list_answered (closed state) replies))
       → MatchBool b (other ≡ refusal (closed state) LongList)
-      ((replies : List Reply) × AreKeptReplies (closed state) (kept_lines list) replies × (other ≡ list_answered (closed state) replies)) → one ≡ other
+      ((replies : List Reply) × AreKeptReplies (closed state) (kept_lines list) replies × (other ≡ list_answered (closed state) replies))
+      → one ≡ other
   by_test true p q = p ∙ sym q
-  by_test false p q = p.2 ∙ ap (list_answered (closed state)) (AreKeptReplies-unique (closed state) matrix (kept_lines list) p.0 q.0 p.1 q.1)
-      ∙ sym q.2
+  by_test false p q = p.2
+      ∙ ap (list_answered (closed state)) (AreKeptReplies-unique (closed state) matrix (kept_lines list) p.0 q.0 p.1 q.1) ∙ sym q.2
 
 pub IsListReply-exists : (state : State) → HasMatrix state → (list : OpenList) → (reply : Reply) × IsListReply state list reply
 IsListReply-exists state matrix list = by_test (is_long list) where

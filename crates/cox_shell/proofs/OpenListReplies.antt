@@ -21,7 +21,6 @@ use Rattle.cox_shell.specs.AnsweredText.{Numbered, numbered, no_text, said_by, A
 use Rattle.cox_shell.specs.declared.session.Stage.{Stage}
 use Rattle.cox_shell.specs.declared.session.Stage.TheVariants.{Opened, Set}
 use Rattle.cox_shell.specs.SessionState.{state_of}
-use Rattle.cox_shell.proofs.KeptLines.{kept_refusal}
 use Rattle.cox_shell.proofs.KeptLists.{with_line-keeps, with_block-keeps}
 
 -- where none is open
@@ -29,9 +28,6 @@ pub outside_reply : (state : State) (content : List ℕ) (reply : Reply) → sta
     → IsReplyTo state content reply
 outside_reply state content reply none is =
     subst (λ o. MatchOption o (IsContentReply state content reply) (λ list. IsReplyInList state list content reply)) (sym none) is
-
-pub unread_outside : (state : State) (why : Refusal) → state.list ≡ None → unread_reply state why ≡ refusal state why
-unread_outside state why none = ap (λ o. kept_refusal o state why) none
 
 -- a block begins, the list ends, or the line is kept
 pub next_reply : (state : State) (content : List ℕ) → IsSome state.list → list_word_of (tokens_of content) ≡ Some Next
@@ -126,11 +122,6 @@ said_by-is state replies = by_refusal (list_answered state replies).refused refl
       → IsSaid (said_by (option_map refusal_number o)) (list_answered state replies)
   by_refusal None e = (e, refl)
   by_refusal (Some why) e = (subst (λ r. IsSomeAnd r (λ other. refusal_number why ≡ refusal_number other)) (sym e) refl, refl)
-
--- the end of the list that was open is the reply to it where it is open no more
-pub end-of-list : (state : State) (list : OpenList) (reply : Reply) → state.list ≡ Some list → IsListReply (closed state) list reply
-    → IsEndOfList state reply
-end-of-list state list reply some is = subst (λ o. IsSomeAnd o (λ l. IsListReply state l reply)) (sym some) is
 
 -- whether one is open
 pub none_open : (o : Option OpenList) → is_some o ≡ false → o ≡ None

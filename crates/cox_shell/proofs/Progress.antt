@@ -13,7 +13,7 @@ use Rattle.cox_shell.specs.Reply.{State, Reply, texts}
 use Rattle.cox_shell.specs.Answer.{AreReplies, state_behind, has_refusal, has_quit}
 use Rattle.cox_shell.specs.Keeping.{KeepsState}
 use Rattle.cox_shell.specs.Run.{Stand, IsServed}
-use Rattle.cox_shell.proofs.KeptStates.{KeepsState-same, served-steps}
+use Rattle.cox_shell.proofs.KeptStates.{KeepsState-same, served-kept}
 use Rattle.cox_shell.proofs.LineReplies.{AreReplies-cons, AreReplies-rejoin}
 use Rattle.cox_shell.proofs.TakenLines.{TakenLines, TakenLines-none, TakenLines-one, TakenLines-append}
 
@@ -82,7 +82,7 @@ going_lines refused old now going p = subst (λ halt. TakenLines p.lines halt ol
 Progress-more : (before refused : Bool) (old now next : Stand) → now.stop ≡ None → Progress before old now
     → IsServed refused false now next → Progress (before || refused) old next
 Progress-more before refused old now next going p served =
-    let s = served-steps refused false (state_behind old.state p.done) now next p.behind served in
+    let s = served-kept refused false (state_behind old.state p.done) now next p.behind served in
     let after = state_behind-push old.state p.done s.reply in
     record {
       lines = p.lines ++ s.line ∷ [];

@@ -34,8 +34,8 @@ command-list Quit state reply is = by_state state reply (ap (λ (r : Reply). r.a
 command-list Jobs state reply is = by_going state reply (ap (λ (r : Reply). r.quits) is)
 command-list (Ask inquiry) state reply is = by_state state reply (IsInquiryReply-state inquiry state reply is)
 command-list (Group g) state reply is =
-    IsDecided-all (RefusesGroup state.limits g) state (λ answer. answer ≡ silence (record state { group = Some g })) (λ r. KeepsList state r)
-    (λ why quits. refl) (λ r answer. by_going state r (ap (λ (s : Reply). s.quits) answer)) reply is
+    IsDecided-all (RefusesGroup state.limits g) state (λ answer. answer ≡ silence (record state { group = Some g }))
+    (λ r. KeepsList state r) (λ why quits. refl) (λ r answer. by_going state r (ap (λ (s : Reply). s.quits) answer)) reply is
 
 content-list : (state : State) (content : List ℕ) (reply : Reply) → IsContentReply state content reply → KeepsList state reply
 unfolding IsContentReply

@@ -1,4 +1,4 @@
--- What is given back at the end of a store of rows are rows of the members, within the limit.
+-- The rows that a store gives back at its end: each is the row of its member, within the limit, and each that was published is there.
 use Rattle.std.proofs.Common.{◌≡◌, ℕ, ◌<◌, List, length, Option, None, Some, ℤ, refl, true, is_some}
 use Rattle.std.specs.Prelude.{IfSome}
 use Rattle.cox_context.specs.Closed.{Elements}

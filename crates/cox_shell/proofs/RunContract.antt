@@ -1,66 +1,36 @@
--- The contract of a whole run, from the run over the lines and the end of a list that is open then, or from what was written of the usage
--- line.
-use Rattle.std.proofs.Common.{◌≡◌, ◌⊎◌, ⊎_elim, inl, inr, ◌<◌, ◌≤◌, ◌+◌, ℕ, true, false, List, [], ◌∷◌, ◌++◌, length, Option, None, Some}
-use Rattle.std.proofs.Common.{refl, sym, ◌∙◌, ap, subst, cond, Bool, ◌||◌, arith, length-append}
-use Rattle.std.specs.Prelude.{IfSome, IsSome, IsSomeAnd}
+-- The contract of a whole run, from the run over the lines and the end of a list that is open then.
+use Rattle.std.proofs.Common.{◌≡◌, ◌⊎◌, ⊎_elim, inl, inr, ◌<◌, ◌≤◌, ◌+◌, ℕ, true, false, List, [], ◌∷◌, length, Option, None, Some}
+use Rattle.std.proofs.Common.{refl, ◌∙◌, ap, subst, cond, Bool, ◌||◌}
+use Rattle.std.specs.Prelude.{IfSome, IsSome}
 use Rattle.std.specs.Io.KnownBytes.{prepend_known}
-use Rattle.std.proofs.lemmas.List.{append-nil}
 use Rattle.cox_outside.specs.declared.limits.TheConstants.{INPUT_LIMIT}
 use Rattle.cox_outside.specs.FaultCount.{count_after}
 use Rattle.cox_outside.specs.Supply.{Supply, SourceCause}
-use Rattle.cox_outside.specs.Outlet.{Outlet, Writes, IsPrefix, SinkCause}
+use Rattle.cox_outside.specs.Outlet.{Outlet, SinkCause}
 use Rattle.cox_outside.specs.Reader.{Reader}
-use Rattle.cox_outside.proofs.Known.{prepend_known-none}
-use Rattle.cox_options.specs.Arguments.{is_refused, IsTaken, IsUsage}
+use Rattle.cox_options.specs.Arguments.{is_refused, IsTaken}
 use Rattle.cox_shell.specs.declared.status.Status.{Status}
 use Rattle.cox_shell.specs.declared.status.Status.TheVariants.{Done, Refused, Usage, ReadFault, WriteFault, NoMemory, InputLimit}
 use Rattle.cox_replies.specs.Limits.{Limits}
 use Rattle.cox_shell.specs.Reply.{OpenList, State, Reply, texts}
-use Rattle.cox_shell.specs.Answer.{AreScriptReplies}
 use Rattle.cox_shell.specs.Run.{stand}
 use Rattle.cox_shell.specs.Status.{is_read_fault, is_write_fault}
-use Rattle.cox_shell.specs.Unhindered.{Rose, IsUnhindered}
-use Rattle.cox_shell.specs.Limited.{IsOverlong}
-use Rattle.cox_shell.specs.Outcome.{Runs, WritesPrefix, AnswersAll, EndsReading}
+use Rattle.cox_shell.specs.Outcome.{Runs, AnswersAll, EndsReading}
 use Rattle.cox_shell.specs.declared.closing.Closed.{Closed}
 use Rattle.cox_shell.specs.declared.closing.Closed.TheVariants as closed
 use Rattle.cox_shell.specs.Closing.{Closes, IsClosingCut, EndsBy, closed_status, closed_write_fault}
-use Rattle.cox_shell.specs.Top.{usage_line, given_limits, StopsReading, AnswersWhole, AnswersGiven, AreDue, AreDueAtEnd, WritesDue}
+use Rattle.cox_shell.specs.Top.{given_limits, StopsReading, AnswersWhole, AnswersGiven, AreDue, AreDueAtEnd, WritesDue}
 use Rattle.cox_shell.specs.Reading.{IsReadBy}
 use Rattle.cox_shell.specs.WholeRun.{IsRun}
-use Rattle.cox_shell.proofs.WrittenByRun.{beginning, AnswersAll-whole, Runs-given, Runs-limit, Runs-takes}
-use Rattle.cox_shell.proofs.WrittenByRun.{fault_reading, limit_reading, cut_due, closed_due, closing_due, closing_lost}
-use Rattle.cox_shell.proofs.WrittenByRun.{WritesDue-none, IsDue-usage, IsCutShort-stops, StopsReading-none}
-
--- arguments are not both taken and wrong
-not-taken_and_wrong : (arguments : List (List ℕ)) → IsTaken arguments → IsUsage arguments → ⊥
-not-taken_and_wrong arguments right wrong = let bad : false ≡ true = sym right ∙ wrong in cc
-
--- a script that has as many bytes as the limit, and one more, is not within the limit
-not-within : (given : List ℕ) (byte : ℕ) (script left : Option (List ℕ)) → script ≡ prepend_known given (prepend_known (byte ∷ []) left)
-    → length given ≡ INPUT_LIMIT → IsSomeAnd script (λ bytes. length bytes ≤ INPUT_LIMIT) → ⊥
-not-within given byte script None gave size within = rw gave at within
-not-within given byte script (Some rest) gave size within =
-    let few : length (given ++ byte ∷ rest) ≤ INPUT_LIMIT = rw gave at within in
-    omega (arith, few, size, length-append given (byte ∷ rest))
-
--- a count after a fault has risen
-rose-told : (before now : ℕ) → now ≡ count_after true before → Rose before now
-rose-told before now e = omega (arith, e)
-
-no_fault : (supply : Supply) → SourceCause supply supply false
-no_fault supply = record { faults = refl; same_sure = refl; unsure = λ e. absurd (cc e) }
-
--- nothing was read
-takes-none : (script : Option (List ℕ)) → (given : List ℕ) × (script ≡ prepend_known given script) × (length given ≤ INPUT_LIMIT + 1)
-takes-none script = ([], sym (prepend_known-none script), omega arith)
+use Rattle.cox_shell.proofs.WrittenByRun.{beginning, AnswersAll-whole, Runs-given, Runs-limit, Runs-takes, fault_reading, limit_reading}
+use Rattle.cox_shell.proofs.WrittenByRun.{IsCutShort-stops}
+use Rattle.cox_shell.proofs.DueByRun.{cut_due, closed_due, closing_due, closing_lost}
+use Rattle.cox_shell.proofs.UnreadRuns.{not-taken_and_wrong}
 
 -- a list is not open and none
 none_some : (o : Option OpenList) → o ≡ None → IsSome o → ⊥
 none_some None none some = cc some
 none_some (Some list) none some = cc none
-
--- ---- the run over the lines, and the end of a list that is open then
 
 module _ (arguments : List (List ℕ)) (source : Supply) (state : State) (reader : Reader) (left : Supply) (old mid new : Outlet)
     (right : IsTaken arguments) where
@@ -73,9 +43,6 @@ module _ (arguments : List (List ℕ)) (source : Supply) (state : State) (reader
   abbrev Reading : Bool → Type 0
   Reading lost = EndsReading lost (beginning limits source.left old) (stand state reader left mid)
 
-  abbrev Prefix : Type 0
-  Prefix = WritesPrefix (beginning limits source.left old) (stand state reader left mid)
-
   abbrev IsLost : Status → Bool → Type 0
   IsLost status lost = lost ≡ true → (status ≡ ReadFault) ⊎ (((status ≡ WriteFault) ⊎ (status ≡ NoMemory))
       × (replies : List Reply) × AreDueAtEnd true limits source.left left.left replies)
@@ -84,8 +51,9 @@ module _ (arguments : List (List ℕ)) (source : Supply) (state : State) (reader
   not_wrong wrong = absurd (not-taken_and_wrong arguments right wrong)
 
   -- the script was answered whole
-  run-whole : (refused : Bool) → AnswersWhole refused limits source.left left.left old new → SourceCause source left false → SinkCause old new false
-      → WritesDue false false arguments source.left left.left old new → IsRun (cond refused Refused Done) arguments source left old new
+  run-whole : (refused : Bool) → AnswersWhole refused limits source.left left.left old new → SourceCause source left false
+      → SinkCause old new false → WritesDue false false arguments source.left left.left old new
+      → IsRun (cond refused Refused Done) arguments source left old new
   run-whole true answers reads writes due = record {
     done = λ e. absurd (cc e);
     refused = λ e. answers;
@@ -315,7 +283,8 @@ module _ (arguments : List (List ℕ)) (source : Supply) (state : State) (reader
       not_cut : (b : Bool) → ¬ IsCut (cond b Refused Done)
       not_cut true which = ⊎_elim (λ e. cc e) (λ e. cc e) which
       not_cut false which = ⊎_elim (λ e. cc e) (λ e. cc e) which
-  read-whole-ends before h closed.Refused c takes = read-rest (closed_status closed.Refused (cond before Refused Done)) (not_cut before) takes
+  read-whole-ends before h closed.Refused c takes =
+      read-rest (closed_status closed.Refused (cond before Refused Done)) (not_cut before) takes
     where
       not_cut : (b : Bool) → ¬ IsCut (closed_status closed.Refused (cond b Refused Done))
       not_cut true which = ⊎_elim (λ e. cc e) (λ e. cc e) which
@@ -391,124 +360,3 @@ module _ (arguments : List (List ℕ)) (source : Supply) (state : State) (reader
       by_status NoMemory runs ends reads takes =
           rw ends.0 (read-cut arguments source state reader left old mid new right NoMemory
           (inl (IsCutShort-stops (given_limits arguments) source.left old state reader left mid runs)) takes)
-
--- ---- memory ran out before anything was read
-
-pub run-none : (arguments : List (List ℕ)) (supply : Supply) (outlet : Outlet) → IsRun NoMemory arguments supply supply outlet outlet
-run-none arguments supply outlet = record {
-  done = λ e. absurd (cc e);
-  refused = λ e. absurd (cc e);
-  given = λ e. absurd (cc e);
-  limit = λ e. absurd (cc e);
-  usage = λ e. absurd (cc e);
-  usage_always = λ wrong. inr (inr refl);
-  lost = false;
-  read_fault = no_fault supply;
-  fault_lost = λ e. absurd (cc e);
-  lost_told = λ e. absurd (cc e);
-  write_fault = refl;
-  prefix = WritesDue-none arguments supply.left outlet;
-}
-
-pub read-none : (arguments : List (List ℕ)) (supply : Supply) → IsReadBy NoMemory arguments supply supply
-read-none arguments supply = record {
-  stops = λ which taken. inl (StopsReading-none (given_limits arguments) supply.left);
-  within = takes-none supply.left;
-}
-
--- ---- the usage line
-
-module _ (arguments : List (List ℕ)) (supply : Supply) (old new : Outlet) (wrong : IsUsage arguments) where
-  pub run-usage : Writes usage_line old new → SinkCause old new false → IsRun Usage arguments supply supply old new
-  run-usage writes cause = record {
-    done = λ e. absurd (cc e);
-    refused = λ e. absurd (cc e);
-    given = λ e. absurd (cc e);
-    limit = λ e. absurd (cc e);
-    usage = λ e. (wrong, writes);
-    usage_always = λ wrong. inl refl;
-    lost = false;
-    read_fault = no_fault supply;
-    fault_lost = λ e. absurd (cc e);
-    lost_told = λ e. absurd (cc e);
-    write_fault = cause;
-    prefix = (
-      usage_line,
-      IsDue-usage false arguments supply.left supply.left wrong,
-      usage_line,
-      ([], sym (append-nil usage_line)),
-      writes,
-      λ e. absurd (cc e),
-    );
-  }
-
-  pub run-usage_cut_off : (written : List ℕ) → IsPrefix written usage_line → Writes written old new
-      → IfSome old.room (λ count. count < length usage_line) → SinkCause old new true → IsRun WriteFault arguments supply supply old new
-  run-usage_cut_off written prefix writes full cause = record {
-    done = λ e. absurd (cc e);
-    refused = λ e. absurd (cc e);
-    given = λ e. absurd (cc e);
-    limit = λ e. absurd (cc e);
-    usage = λ e. absurd (cc e);
-    usage_always = λ wrong. inr (inl refl);
-    lost = false;
-    read_fault = no_fault supply;
-    fault_lost = λ e. absurd (cc e);
-    lost_told = λ e. absurd (cc e);
-    write_fault = cause;
-    prefix = (usage_line, IsDue-usage false arguments supply.left supply.left wrong, written, prefix, writes, λ e. full);
-  }
-
--- nothing is read then
-pub read-usage : (status : Status) (arguments : List (List ℕ)) (supply : Supply) → IsUsage arguments
-    → IsReadBy status arguments supply supply
-read-usage status arguments supply wrong = record {
-  stops = λ cut taken. absurd (not-taken_and_wrong arguments taken wrong);
-  within = takes-none supply.left;
-}
-
--- ---- without faults
-
--- without faults a script within the limit is answered, or memory runs out
-pub run-unhindered : (status : Status) (arguments : List (List ℕ)) (source left : Supply) (old new : Outlet)
-    → IsRun status arguments source left old new → IsTaken arguments → ¬ Rose source.faults left.faults → ¬ Rose old.faults new.faults
-    → IsSomeAnd source.left (λ script. length script ≤ INPUT_LIMIT) → IsUnhindered status
-run-unhindered Done arguments source left old new run right no_read no_write within = tt
-run-unhindered Refused arguments source left old new run right no_read no_write within = tt
-run-unhindered Usage arguments source left old new run right no_read no_write within =
-    not-taken_and_wrong arguments right (run.usage refl).0
-run-unhindered ReadFault arguments source left old new run right no_read no_write within =
-    no_read (rose-told source.faults left.faults (subst (λ lost. left.faults ≡ count_after lost source.faults) (run.fault_lost refl)
-    run.read_fault.faults))
-run-unhindered WriteFault arguments source left old new run right no_read no_write within =
-    no_write (rose-told old.faults new.faults run.write_fault)
-run-unhindered NoMemory arguments source left old new run right no_read no_write within = tt
-run-unhindered InputLimit arguments source left old new run right no_read no_write within =
-    let limit = run.limit refl in
-    not-within limit.1.given limit.0 source.left left.left limit.1.taken limit.2 within
-
--- a script that was answered whole, and has no line that ends the run, is within the limit
-not-over : (refused : Bool) (limits : Limits) (script : List ℕ) (known left : Option (List ℕ)) (old new : Outlet) → known ≡ Some script
-    → IsOverlong limits script → AnswersWhole refused limits known left old new → ⊥
-not-over refused limits script known left old new is long whole =
-    let are : AreScriptReplies limits script whole.replies = rw is at whole.are_replies in
-    let read = rw (long.none_quits whole.replies are, is) at whole.read in
-    omega (arith, long.over, read.0)
-
--- a longer script ends at the limit, or memory runs out
-pub run-longer : (status : Status) (arguments : List (List ℕ)) (script : List ℕ) (source left : Supply) (old new : Outlet)
-    → IsRun status arguments source left old new → IsTaken arguments → ¬ Rose source.faults left.faults → ¬ Rose old.faults new.faults
-    → source.left ≡ Some script → IsOverlong (given_limits arguments) script → (status ≡ InputLimit) ⊎ (status ≡ NoMemory)
-run-longer Done arguments script source left old new run right no_read no_write known long =
-    absurd (not-over false (given_limits arguments) script source.left left.left old new known long (run.done refl))
-run-longer Refused arguments script source left old new run right no_read no_write known long =
-    absurd (not-over true (given_limits arguments) script source.left left.left old new known long (run.refused refl))
-run-longer Usage arguments script source left old new run right no_read no_write known long =
-    absurd (not-taken_and_wrong arguments right (run.usage refl).0)
-run-longer ReadFault arguments script source left old new run right no_read no_write known long =
-    absurd (no_read (rose-told source.faults left.faults (subst (λ lost. left.faults ≡ count_after lost source.faults)
-    (run.fault_lost refl) run.read_fault.faults)))
-run-longer WriteFault arguments script source left old new run right no_read no_write known long =
-    absurd (no_write (rose-told old.faults new.faults run.write_fault))
-run-longer NoMemory arguments script source left old new run right no_read no_write known long = inr refl
-run-longer InputLimit arguments script source left old new run right no_read no_write known long = inl refl

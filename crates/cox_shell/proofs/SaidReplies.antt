@@ -120,13 +120,6 @@ Says-kept (Ok said) Was Is state before after of (reply, was, says) =
     (reply, of reply was, record { is_said = says.is_said; text = says.text; keeps = KeepsState-same state reply.after says.state_after })
 Says-kept (Err error) Was Is state before after of says = tt
 
-pub Says-kept_reply : (result : Result Said AllocError) (Was : State → Reply) (reply : Reply) (state : State) (before after : List ℕ)
-    → reply ≡ Was state → IfOk result (λ said. Says said (Was state) state before after)
-    → IfOk result (λ said. SaysKept said reply state before after)
-Says-kept_reply (Ok said) Was reply state before after is says =
-    rw is (record { is_said = says.is_said; text = says.text; keeps = KeepsState-same state (Was state).after says.state_after })
-Says-kept_reply (Err error) Was reply state before after is says = tt
-
 -- nothing is said to a line that is kept, or that begins a block
 kept-silence : (state kept after : State) (out : List ℕ) → state ≡ kept → KeepsState kept after
     → SaysKept Answered (silence after) state out out
@@ -147,49 +140,25 @@ silent-breaks (Err error) old next after Is out is same =
 
 -- the same of the one reply that is right
 pub silent-one : (result : Result Said AllocError) (next kept after : State) (reply : Reply) (out : List ℕ) → reply ≡ silence after
-    → KeepsState kept after → IfOk result (λ said. (said ≡ Answered) × (next ≡ kept)) → IfOk result (λ said. SaysKept said reply next out out)
+    → KeepsState kept after → IfOk result (λ said. (said ≡ Answered) × (next ≡ kept))
+    → IfOk result (λ said. SaysKept said reply next out out)
 silent-one (Ok said) next kept after reply out is keeps done = rw (done.0, is) (kept-silence next kept after out done.1 keeps)
 silent-one (Err error) next kept after reply out is keeps done = tt
 
-pub silent-one_breaks : (result : Result Said AllocError) (old next after : State) (reply : Reply) (out : List ℕ) → reply ≡ silence after
-    → OnErr result (next ≡ old) → OnErr result (SaysPrefix reply old next out out)
-silent-one_breaks (Ok said) old next after reply out is same = tt
-silent-one_breaks (Err error) old next after reply out is same =
-    rw is (record { puts_prefix = PutsPrefix-none (silence after).text out out refl; same_state = same })
-
--- a reply that was said, without the state
-pub Says-text : (result : Result Said AllocError) (Was Is : Reply → Type 0) (state : State) (before after : List ℕ)
-    → ((reply : Reply) → Was reply → Is reply)
-    → IfOk result (λ said. (reply : Reply) × Was reply × Says said reply state before after)
-    → IfOk result (λ said. (reply : Reply) × Is reply × SaysText said reply before after)
-Says-text (Ok said) Was Is state before after of (reply, was, says) =
-    (reply, of reply was, record { is_said = says.is_said; text = says.text })
-Says-text (Err error) Was Is state before after of says = tt
-
-pub Says-text_reply : (result : Result Said AllocError) (Is : Reply → Type 0) (reply : Reply) (state : State) (before after : List ℕ)
-    → Is reply → IfOk result (λ said. Says said reply state before after)
-    → IfOk result (λ said. (reply : Reply) × Is reply × SaysText said reply before after)
-Says-text_reply (Ok said) Is reply state before after is says = (reply, is, record { is_said = says.is_said; text = says.text })
-Says-text_reply (Err error) Is reply state before after is says = tt
-
+-- a reply that was broken off, without the state
 pub SaysPrefix-puts_reply : (result : Result Said AllocError) (Is : Reply → Type 0) (reply : Reply) (old new : State)
     (before after : List ℕ) → Is reply → OnErr result (SaysPrefix reply old new before after)
     → OnErr result ((reply : Reply) × Is reply × PutsPrefix reply.text before after)
 SaysPrefix-puts_reply (Ok said) Is reply old new before after is says = tt
 SaysPrefix-puts_reply (Err error) Is reply old new before after is says = (reply, is, says.puts_prefix)
 
--- the same, by what follows for the reply
+-- a reply whose text was said, by what follows for it
 pub SaysText-follows : (result : Result Said AllocError) (Was Is : Reply → Type 0) (before after : List ℕ)
     → ((reply : Reply) → Was reply → Is reply)
     → IfOk result (λ said. (reply : Reply) × Was reply × SaysText said reply before after)
     → IfOk result (λ said. (reply : Reply) × Is reply × SaysText said reply before after)
 SaysText-follows (Ok said) Was Is before after of (reply, was, says) = (reply, of reply was, says)
 SaysText-follows (Err error) Was Is before after of says = tt
-
--- a reply whose text was said was said, where the state is the one after it
-pub SaysText-says : (said : Said) (reply : Reply) (state : State) (before after : List ℕ) → SaysText said reply before after
-    → state ≡ reply.after → Says said reply state before after
-SaysText-says said reply state before after says same = record { is_said = says.is_said; text = says.text; state_after = same }
 
 -- a list was opened
 pub opened-says : (result : Result Said AllocError) (state next : State) (out : List ℕ)

@@ -21,7 +21,8 @@ module _ (arguments : List (List ℕ)) (script : List ℕ) (source left : Supply
   IsAnswered status = (replies : List Reply) × AreScriptReplies (given_limits arguments) script replies × Writes (texts replies) old new
       × (status ≡ whole_status (has_refusal replies))
 
-  from_whole : (refused : Bool) → AnswersWhole refused (given_limits arguments) source.left left.left old new → IsAnswered (whole_status refused)
+  from_whole : (refused : Bool) → AnswersWhole refused (given_limits arguments) source.left left.left old new
+      → IsAnswered (whole_status refused)
   from_whole refused h = (h.replies, rw known at h.are_replies, h.writes, ap whole_status (sym h.refuses))
 
   answered : (status : Status) → IsRun status arguments source left old new → IsWhole status → IsAnswered status

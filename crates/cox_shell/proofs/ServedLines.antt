@@ -64,7 +64,8 @@ answers_refused said why line state next halt old new before after refused takes
 
 -- where no line was answered, or there was no memory, nothing is written
 pub AnswersNextLine-serves : (stopped : Stopped) (old new : Stand) (buffer : List ℕ)
-    → AnswersNextLine (Err stopped) old.state new.state new.stop old.ahead new.ahead buffer → new.out ≡ old.out → Serves (Err stopped) old new
+    → AnswersNextLine (Err stopped) old.state new.state new.stop old.ahead new.ahead buffer → new.out ≡ old.out
+    → Serves (Err stopped) old new
 AnswersNextLine-serves why.End old new buffer h same = (h.0, same, h.2)
 AnswersNextLine-serves why.ReadFault old new buffer h same = (h.0, same, h.2)
 AnswersNextLine-serves why.WriteFault old new buffer h same = absurd h

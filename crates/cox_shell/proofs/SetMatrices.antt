@@ -34,7 +34,8 @@ abbrev pub matrix_of : List (List ℕ) → CoxeterMatrix
 matrix_of arguments = record { rank = value_of (argument arguments 0); labels = map value_of (drop 1 arguments) }
 
 -- the matrix of a type that there is
-named_matrix-is : (arguments : List (List ℕ)) (rank : Option ℕ) → applies Named arguments rank UnknownType ≡ false → IsCoxeterMatrix (named_matrix arguments)
+named_matrix-is : (arguments : List (List ℕ)) (rank : Option ℕ) → applies Named arguments rank UnknownType ≡ false
+    → IsCoxeterMatrix (named_matrix arguments)
 named_matrix-is arguments rank typed = by_name (argument arguments 0) (not-false _ typed)
   where
     n : ℕ

@@ -1,4 +1,5 @@
--- What a session keeps of the list that is open. Of one that is too long it keeps no more than made it so: its end is refused, whatever follows.
+-- What a session keeps of the list that is open. Of one that is too long it keeps no more than made it so: its end is refused, whatever
+-- follows.
 use Rattle.std.specs.Prelude.{◌≡◌, ◌⊎◌, ◌≤◌, ◌+◌, true, if◌then◌else◌, length, Option, None, Some}
 use Rattle.std.specs.Option.{option_map}
 use Rattle.cox_shell.specs.declared.limits.TheConstants.{MAX_BLOCKS, MAX_LINES}

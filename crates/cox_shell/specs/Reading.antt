@@ -14,7 +14,8 @@ pub record IsReadBy (status : Status) (arguments : List (List ℕ)) (source left
   -- Where a write failed or memory ran out, less than a chunk was read beyond lines whose replies are due, of which one that ends the run
   -- is the last; or reading had ended inside a list, by a failed read, which is told, or otherwise.
   pub stops : (status ≡ WriteFault) ⊎ (status ≡ NoMemory) → is_refused arguments ≡ false
-      → ((replies : List Reply) × AreDue (given_limits arguments) source.left left.left replies × StopsReading replies source.left left.left)
+      → ((replies : List Reply) × AreDue (given_limits arguments) source.left left.left replies
+      × StopsReading replies source.left left.left)
       ⊎ ((lost : Bool) × (lost ≡ true → SourceCause source left true) × (replies : List Reply)
       × AreDueAtEnd lost (given_limits arguments) source.left left.left replies)
   -- No more is read than the limit and one byte.

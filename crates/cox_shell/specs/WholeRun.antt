@@ -25,8 +25,8 @@ pub record IsRun (status : Status) (arguments : List (List ℕ)) (source left : 
   -- Where the arguments give no options it is the usage line, and only there.
   pub usage : status ≡ Usage → (is_refused arguments ≡ true) × Writes usage_line old new
   pub usage_always : is_refused arguments ≡ true → (status ≡ Usage) ⊎ (status ≡ WriteFault) ⊎ (status ≡ NoMemory)
-  -- `lost` says whether a read failed, at whatever status the run ended. Faults come from outside, and each is told. After a failed read inside a list a write of the list's answer may fail too, or memory run
-  -- out for it, and that is told then.
+  -- `lost` says whether a read failed, at whatever status the run ended. Faults come from outside, and each is told. After a failed read
+  -- inside a list a write of the list's answer may fail too, or memory run out for it, and that is told then.
   pub lost : Bool
   pub read_fault : SourceCause source left lost
   pub fault_lost : status ≡ ReadFault → lost ≡ true

@@ -7,9 +7,9 @@ ghost use Rattle.std.specs.Thread.{IsSync};
 ghost use Rattle.cox_shell.specs.OpenLists.{is_long};
 ghost use Rattle.cox_shell.specs.AnsweredText.{AnswersList, AnswersListIfOk};
 
-use crate::ahead::SharedRows;
 use crate::answered::AnsweredText;
 use crate::list::Block;
+use crate::prefetch::SharedRows;
 use crate::session::Session;
 use cox_outside::{Gate, Point};
 use std::alloc::{AllocError, Global};
@@ -50,7 +50,7 @@ fn answer_parts<R: Threads + Wait + Sync, G: Gate + Sync>(
     ensures { AnswersListIfOk result session.now blocks.now }
 {
     if workers == 1 || blocks.len() < 2 {
-        return answer_by_turns(rt, gate, session, alloc, blocks, first);
+        return answer_in_order(rt, gate, session, alloc, blocks, first);
     }
     let low = workers / 2;
     let high = workers - low;
@@ -72,7 +72,8 @@ fn answer_parts<R: Threads + Wait + Sync, G: Gate + Sync>(
     Ok(answered)
 }
 
-/// Of `count` blocks, how many the first `some` of `all` workers answer: the same part of the blocks as they are of the workers, rounded up.
+/// Of `count` blocks, how many the first `some` of `all` workers answer: the same part of the blocks as they are of the workers, rounded
+/// up.
 fn share_of(count: usize, some: u32, all: u32) -> usize
     requires { 1 ≤ all }
     ensures { result ≤ count }
@@ -84,7 +85,7 @@ fn share_of(count: usize, some: u32, all: u32) -> usize
 }
 
 /// The answer to blocks by this thread alone, one after another. It has a session of its own, which reads the rows of this one.
-fn answer_by_turns<R: Wait, G: Gate>(
+fn answer_in_order<R: Wait, G: Gate>(
     rt: &R,
     gate: &G,
     session: &Session,
@@ -100,7 +101,7 @@ fn answer_by_turns<R: Wait, G: Gate>(
         workspace: session.workspace(),
     };
     let mut answered = AnsweredText::new(alloc);
-    'turns: for place in 0..blocks.len() {
+    'each: for place in 0..blocks.len() {
         gate.pass(rt, first + place as u32, Point::Block, 0);
         own.answer_block(&maker, &blocks[place], &mut answered)?;
     }

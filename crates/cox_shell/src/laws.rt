@@ -135,8 +135,9 @@ pub fn inquiries()
 
 /// The same of single commands, written out: u and v are the words that y and w read as. A line is refused by 31 exactly where there are
 /// more x <= v, or more elements of the group, than the limit (for `cert` also where there are more x <= v than a check takes, and for
-/// commands on the whole group also where an element has more letters than a word may have); else by 34 exactly where elements are too far apart for R, or for a check;
-/// else by 32 exactly where a row that is needed is beyond the limits. Else it is answered the text that stands last.
+/// commands on the whole group also where an element has more letters than a word may have); else by 34 exactly where elements are too far
+/// apart for R, or for a check; else by 32 exactly where a row that is needed is beyond the limits. Else it is answered the text that
+/// stands last.
 pub fn commands()
     ensures compute { (state : State) (g : CoxeterMatrix) (w v : List ℕ) → state.group ≡ Some g → ReadsAs g w v
         → (let A = integer_matrix g in IsAnswered state (codes "compute" ∷ w ∷ [])

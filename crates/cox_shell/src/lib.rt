@@ -12,7 +12,7 @@
 //! - `status`: how a run ends
 //! - `workers`: rows that are made by several threads
 //! - `block_answerer`, `at_once`: what answers the blocks of a list at once, and how threads do that
-//! - `ahead`: rows that are made before the lines of blocks ask for them, and that all threads read
+//! - `prefetch`: what the lines of blocks will ask for, so that its rows are made before, and how threads read those rows
 //! - `list`, `limits`: lists of blocks, and how long they may be
 //! - `block_line`: what a line of a block gives, read once
 //! - `answered`: what the lines of blocks are answered
@@ -25,7 +25,6 @@
 //!   block in a list is answered as it is alone
 #![tactic(auto)]
 
-mod ahead;
 mod answered;
 mod at_once;
 mod block_answerer;
@@ -34,6 +33,7 @@ mod closing;
 pub mod laws;
 mod limits;
 mod list;
+mod prefetch;
 mod running;
 mod serving;
 mod session;

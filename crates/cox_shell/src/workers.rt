@@ -28,7 +28,8 @@ use std::thread::Threads;
 const MANY_ROWS: usize = 1_024;
 
 /// Where fewer than [`MANY_ROWS`] rows are missing: how many polynomials one thread adds up before workers are asked, with
-/// [`FEW_FOR_EACH_MEMBER`] more for each member. To start threads, and to make a store and tables over all members, is not worth it for less.
+/// [`FEW_FOR_EACH_MEMBER`] more for each member. To start threads, and to make a store and tables over all members, is not worth it for
+/// less.
 const FEW_POLYNOMIALS: u64 = 131_072;
 
 /// How many more polynomials it adds up for each member of the context: a store and the tables of workers take time and memory in

@@ -82,8 +82,8 @@ struct Counts {
     claimed: usize,
 }
 
-/// What a gate counts in a run by so many workers, where so many are awaited, for so many rows; `None` where the run does not write what one
-/// worker writes.
+/// What a gate counts in a run by so many workers, where so many are awaited, for so many rows; `None` where the run does not write what
+/// one worker writes.
 fn counts_of<R: Threads + Wait + Sync>(
     rt: &R,
     alloc: Global,

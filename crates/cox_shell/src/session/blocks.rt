@@ -1,9 +1,9 @@
 //! The blocks of a list: what their lines are answered.
-use crate::ahead::inquiries_of;
 use crate::answered::AnsweredText;
 use crate::block_answerer::BlockAnswerer;
 use crate::block_line::{BlockLine, read_in_block};
 use crate::list::{Block, KeptLine, is_long};
+use crate::prefetch::inquiries_of;
 use crate::session::{Said, Session, Stage};
 use cox_answers::RowMaker;
 use cox_command::Refusal;

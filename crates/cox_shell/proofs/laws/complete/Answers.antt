@@ -1,5 +1,5 @@
 -- Without faults a script within the limit is answered, or memory runs out.
-use Rattle.cox_shell.proofs.RunContract.{run-unhindered}
+use Rattle.cox_shell.proofs.UnhinderedRuns.{run-unhindered}
 use Rattle.cox_shell.proofs.laws.complete.Goals as goal
 
 pub returns : goal.returns

@@ -1,5 +1,5 @@
 -- The law `longer`.
-use Rattle.cox_shell.proofs.RunContract.{run-longer}
+use Rattle.cox_shell.proofs.UnhinderedRuns.{run-longer}
 use Rattle.cox_shell.proofs.laws.longer.Goals as goal
 
 pub returns : goal.returns

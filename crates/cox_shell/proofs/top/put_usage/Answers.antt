@@ -1,5 +1,5 @@
 -- What is written is the usage line, or a prefix of it.
-use Rattle.cox_shell.proofs.RunContract.{run-usage, run-usage_cut_off, read-usage}
+use Rattle.cox_shell.proofs.UnreadRuns.{run-usage, run-usage_cut_off, read-usage}
 use Rattle.cox_shell.proofs.top.put_usage.Goals as goal
 
 pub returns-in-Ok-clause-run : goal.returns-in-Ok-clause-run

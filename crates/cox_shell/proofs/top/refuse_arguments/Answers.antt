@@ -1,5 +1,5 @@
 -- Wrong arguments are answered by the usage line; without memory nothing is written.
-use Rattle.cox_shell.proofs.RunContract.{run-none, read-none}
+use Rattle.cox_shell.proofs.UnreadRuns.{run-none, read-none}
 use Rattle.cox_shell.proofs.top.refuse_arguments.Goals as goal
 
 pub returns-in-Usage-clause-run : goal.returns-in-Usage-clause-run

@@ -2,7 +2,8 @@
 use Rattle.std.proofs.Common.{ap, ◌∙◌}
 use Rattle.cox_shell.specs.Reply.{opening}
 use Rattle.cox_shell.proofs.WrittenByRun.{Runs-beginning}
-use Rattle.cox_shell.proofs.RunContract.{run-lines, read-lines, run-none, read-none}
+use Rattle.cox_shell.proofs.RunContract.{run-lines, read-lines}
+use Rattle.cox_shell.proofs.UnreadRuns.{run-none, read-none}
 use Rattle.cox_shell.proofs.top.run_session.Goals as goal
 
 pub returns-in_default-clause-run : goal.returns-in_default-clause-run

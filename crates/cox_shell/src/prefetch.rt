@@ -1,4 +1,4 @@
-//! Rows that are made before the lines of blocks ask for them, and that all threads read.
+//! What the lines of blocks will ask for, so that its rows are made before, and how threads read those rows.
 ghost use Rattle.std.specs.Prelude.{All, IfOk, IfSome};
 ghost use Rattle.cox_command.specs.ParseContract.{HasLetters};
 

@@ -1,7 +1,7 @@
 -- Each of those that were found has its letters.
 use Rattle.std.specs.Prelude.{All}
 use Rattle.cox_command.specs.ParseContract.{HasLetters}
-use Rattle.cox_shell.proofs.ahead.inquiries_of.Given as goal
+use Rattle.cox_shell.proofs.prefetch.inquiries_of.Given as goal
 
 abbrev pub invariant-each : goal.invariant-each
 invariant-each l = All (HasLetters l.rank) l.inquiries.items
