@@ -66,13 +66,8 @@ pub(crate) fn step_with_fewest_corrections<L: LowerRows>(
     if best.corrections == start.corrections {
         return Ok(first);
     }
-    let step = Step::of(
-        alloc,
-        ctx,
-        best.side,
-        &best.descent,
-        lower.row(best.descent.lower),
-    )?;
+    let shorter = lower.row(best.descent.lower);
+    let step = Step::of(alloc, ctx, best.side, &best.descent, shorter)?;
     Ok(step)
 }
 

@@ -13,7 +13,7 @@ ghost use Rattle.cox_row_builder.specs.Underway.{IsUnderway};
 ghost use Rattle.cox_klstep.specs.CountedSteps.{IsWithinCost, IsCounted, IsWithinCostTo, IsCountedTo};
 ghost use Rattle.cox_klstep.specs.FoundTogether.{IsFoundFor, AreFound};
 ghost use Rattle.cox_klstep.specs.Plans.{IsPlan, plan_cost};
-ghost use Rattle.cox_klstep.specs.SourceOf.{IsSource, source_cost};
+ghost use Rattle.cox_klstep.specs.SourceOf.{source_cost};
 ghost use Rattle.cox_klstep.specs.TablesOf.{AreTables};
 ghost use Rattle.cox_klstep.specs.Tasks.{IsTask};
 
@@ -90,7 +90,6 @@ fn make_row(
 {
     let ctx = task.ctx;
     let i = task.member;
-    let source = task.source;
     let lowered = task.lowered;
     let limit = task.limit;
     let _len = ctx.len();
@@ -101,53 +100,44 @@ fn make_row(
         builder.pass(ctx, i, next.member)?;
         cursor.come_to(next.member);
         let found = cursor.polynomial(next.member);
-        add_extremal(
-            ctx,
-            i,
-            source,
-            next.shorter,
-            found,
-            limit,
-            &mut builder,
-            sums,
-            steps,
-        )?;
+        add_extremal(task, next.shorter, found, &mut builder, sums, steps)?;
     }
     builder.finish(alloc, ctx, i, limit)
 }
 
 /// One extremal member more, from which the step leads to the member `shorter`, with its polynomial if that was found before.
 fn add_extremal(
-    ctx: &Context,
-    i: u32,
-    source: &Source,
+    task: &RowTask,
     shorter: u32,
     found: Option<&Poly>,
-    limit: i64,
     builder: &mut RowBuilder,
     sums: &mut Acc,
     steps: &mut Steps,
 ) -> Result<(), AllocError>
-    requires i { i < length ctx.now.members }
-    requires source { IsSource ctx.now i source.now }
-    requires x { builder.old.done ≤ i }
-    requires extremal { IsExtremal (integer_matrix ctx.now.matrix) (word_at ctx.now.members i) (word_at ctx.now.members builder.old.done) }
-    requires shorter { IsNumberOf ctx.now.members (normal_form (integer_matrix ctx.now.matrix)
-        (times_letter source.now.step.now.side source.now.step.now.letter (word_at ctx.now.members builder.old.done))) (Some shorter) }
-    requires found { IfSome found (λ p. IsFoundFor ctx.now i builder.old.done p.now) }
-    requires underway { IsUnderway ctx.now i limit builder.old }
-    ensures underway { OnOk result (IsUnderway ctx.now i limit builder.new) }
+    requires task { IsTask task.now }
+    requires x { builder.old.done ≤ task.now.member }
+    requires extremal { IsExtremal (integer_matrix task.now.ctx.now.matrix) (word_at task.now.ctx.now.members task.now.member)
+        (word_at task.now.ctx.now.members builder.old.done) }
+    requires shorter { IsNumberOf task.now.ctx.now.members (normal_form (integer_matrix task.now.ctx.now.matrix)
+        (times_letter task.now.source.now.step.now.side task.now.source.now.step.now.letter
+        (word_at task.now.ctx.now.members builder.old.done))) (Some shorter) }
+    requires found { IfSome found (λ p. IsFoundFor task.now.ctx.now task.now.member builder.old.done p.now) }
+    requires underway { IsUnderway task.now.ctx.now task.now.member task.now.limit builder.old }
+    ensures underway { OnOk result (IsUnderway task.now.ctx.now task.now.member task.now.limit builder.new) }
     ensures done { OnOk result (builder.new.done ≡ builder.old.done + 1) }
-    ensures steps { (start : ℕ) → IsWithinCostTo ctx.now i (source_cost source.now) builder.old.done start steps.old
-        → IsWithinCostTo ctx.now i (source_cost source.now) (builder.old.done + 1) start steps.new }
-    ensures counted { (start : ℕ) → IsCountedTo ctx.now i builder.old.done start steps.old
-        → IsCountedTo ctx.now i (builder.old.done + 1) start steps.new }
+    ensures steps { (start : ℕ)
+        → IsWithinCostTo task.now.ctx.now task.now.member (source_cost task.now.source.now) builder.old.done start steps.old
+        → IsWithinCostTo task.now.ctx.now task.now.member (source_cost task.now.source.now) (builder.old.done + 1) start steps.new }
+    ensures counted { (start : ℕ) → IsCountedTo task.now.ctx.now task.now.member builder.old.done start steps.old
+        → IsCountedTo task.now.ctx.now task.now.member (builder.old.done + 1) start steps.new }
 {
+    let ctx = task.ctx;
+    let i = task.member;
     let _len = ctx.len();
     let x = builder.done();
-    if !put_polynomial(ctx, i, source, x, shorter, found, sums, steps) {
+    if !put_polynomial(ctx, i, task.source, x, shorter, found, sums, steps) {
         builder.skip(ctx, i);
         return Ok(());
     }
-    builder.keep(ctx, i, sums, limit)
+    builder.keep(ctx, i, sums, task.limit)
 }

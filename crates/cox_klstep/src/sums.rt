@@ -1,6 +1,5 @@
 //! The recursion at one extremal member: the polynomials that are added up.
 ghost use Rattle.std.specs.Prelude.{◌≡◌, ℕ, ◌+◌, ◌*◌, ◌^◌, ◌<◌, ◌≤◌, ◌↔◌, length, pos, unsigned_abs, false, IsTrue, IfSome, IsSome, Some};
-ghost use Rattle.std.specs.Arc.{arc_value};
 ghost use Rattle.cox_base.specs.Admissible.{IsAdmissible};
 ghost use Rattle.cox_base.specs.IntegerMatrix.{integer_matrix};
 ghost use Rattle.cox_base.specs.Bruhat.{IsBelow};
@@ -16,7 +15,6 @@ ghost use Rattle.cox_context.specs.Numbers.{word_at};
 ghost use Rattle.cox_context.specs.Numbering.{IsNumberOf};
 ghost use Rattle.cox_row.specs.Extremal.{IsExtremal};
 ghost use Rattle.cox_row.specs.RowOf.{IsRowAt};
-ghost use Rattle.cox_row.specs.Index.{IsIndexOf};
 ghost use Rattle.cox_klstep.specs.StepOf.{IsRowStep, AreNeeded};
 ghost use Rattle.cox_klstep.specs.CorrectionSums.{GivesAt, numbered_sum};
 ghost use Rattle.cox_row_builder.specs.Counted.{counted};
@@ -28,6 +26,18 @@ use cox_context::Context;
 use cox_poly::{Acc, Poly, PolyView};
 use cox_row::{Row, RowIndex, indexed_polynomial, polynomial};
 use cox_row_builder::Steps;
+
+/// What the polynomials of the row of a member come from: a step with the rows that it is made from.
+#[derive(Clone, Copy)]
+pub struct Source<'a> {
+    pub(crate) step: &'a Step,
+    /// The row of the shorter element.
+    pub(crate) lower: &'a Row,
+    /// The index of that row.
+    pub(crate) index: &'a RowIndex,
+    /// The rows of the corrections, in their order.
+    pub(crate) needed: &'a [&'a Row],
+}
 
 /// What is added to the sums for an x: factor q^shift P(x,u), for the member u with this number.
 #[derive(Clone, Copy)]
@@ -108,43 +118,40 @@ fn add_known(
 }
 
 /// The sums become those of P(x,w), for an extremal x from which the step leads to the member `shorter`; says whether x <= w.
+// fast: inlined, since a row that one thread makes then takes a twentieth fewer instructions
 #[inline(always)]
-pub(crate) fn sum_up(
+fn sum_up(
     ctx: &Context,
-    step: &Step,
-    lower: &Row,
-    index: &RowIndex,
-    needed: &[&Row],
+    source: &Source,
     x: u32,
     shorter: u32,
     sums: &mut Acc,
     steps: &mut Steps,
 ) -> bool
-    requires step { IsRowStep ctx.now step.now }
-    requires lower { IsRowAt ctx.now step.now.lower lower.now }
-    requires index { IsIndexOf (arc_value lower.now.values).extremal.items index.now }
-    requires needed { AreNeeded ctx.now step.now.corrections.items needed.now }
+    requires source { IsSource ctx.now source.now.step.now.member source.now }
     requires x { x < length ctx.now.members }
-    requires extremal { IsExtremal (integer_matrix ctx.now.matrix) (word_at ctx.now.members step.now.member) (word_at ctx.now.members x) }
+    requires extremal { IsExtremal (integer_matrix ctx.now.matrix) (word_at ctx.now.members source.now.step.now.member)
+        (word_at ctx.now.members x) }
     requires shorter { IsNumberOf ctx.now.members (normal_form (integer_matrix ctx.now.matrix)
-        (times_letter step.now.side step.now.letter (word_at ctx.now.members x))) (Some shorter) }
+        (times_letter source.now.step.now.side source.now.step.now.letter (word_at ctx.now.members x))) (Some shorter) }
     requires clear { (k : ℕ) → coefficient sums.old k ≡ pos 0 }
     ensures below { IsTrue result ↔ IsBelow (integer_matrix ctx.now.matrix) (word_at ctx.now.members x)
-        (word_at ctx.now.members step.now.member) }
+        (word_at ctx.now.members source.now.step.now.member) }
     ensures value { IsTrue result → IsKazhdanLusztig (integer_matrix ctx.now.matrix) (word_at ctx.now.members x)
-        (word_at ctx.now.members step.now.member) (coefficient sums.new) }
-    ensures steps { steps.new ≤ steps.old + (2 + length step.now.corrections.items) }
+        (word_at ctx.now.members source.now.step.now.member) (coefficient sums.new) }
+    ensures steps { steps.new ≤ steps.old + source_cost source.now }
     ensures some { IsTrue result → counted steps.old 1 ≤ steps.new }
     ensures kept { steps.old ≤ steps.new }
     ensures none { result ≡ false → steps.new ≡ steps.old }
 {
     let _len = ctx.len();
+    let step = source.step;
     let at_shorter = Term {
         number: step.lower,
         factor: 1,
         shift: 0,
     };
-    let found = indexed_polynomial(ctx, lower, index, step.lower, shorter);
+    let found = indexed_polynomial(ctx, source.lower, source.index, step.lower, shorter);
     if !add(ctx, found, &at_shorter, shorter, sums, steps) {
         return false;
     }
@@ -153,9 +160,9 @@ pub(crate) fn sum_up(
         factor: 1,
         shift: 1,
     };
-    let found = indexed_polynomial(ctx, lower, index, step.lower, x);
+    let found = indexed_polynomial(ctx, source.lower, source.index, step.lower, x);
     add(ctx, found, &at_x, x, sums, steps);
-    correct(ctx, step, needed, x, sums, steps);
+    correct(ctx, step, source.needed, x, sums, steps);
     true
 }
 
@@ -173,6 +180,7 @@ fn correct(ctx: &Context, step: &Step, needed: &[&Row], x: u32, sums: &mut Acc, 
     ensures kept { steps.old ≤ steps.new }
 {
     for (k, correction) in step.corrections.iter().enumerate() {
+        // fast: x is not below a member with a smaller number, so nothing is looked up there
         if x <= correction.number {
             take_off(ctx, needed[k], correction, x, sums, steps);
         }
@@ -213,20 +221,9 @@ fn take_off(
     add(ctx, found, &term, x, sums, steps);
 }
 
-/// What the polynomials of the row of a member come from: a step with the rows that it is made from.
-#[derive(Clone, Copy)]
-pub struct Source<'a> {
-    pub(crate) step: &'a Step,
-    /// The row of the shorter element.
-    pub(crate) lower: &'a Row,
-    /// The index of that row.
-    pub(crate) index: &'a RowIndex,
-    /// The rows of the corrections, in their order.
-    pub(crate) needed: &'a [&'a Row],
-}
-
 /// The sums become those of P(x,w), for an extremal x from which the step leads to the member `shorter`; says whether x <= w. Where the
 /// polynomial was found before, that counts as one polynomial added up.
+// fast: inlined, so that the loop over the extremal members is one piece of machine code
 #[inline(always)]
 pub(crate) fn put_polynomial(
     ctx: &Context,
@@ -258,17 +255,7 @@ pub(crate) fn put_polynomial(
         put_found(ctx, i, polynomial, x, sums, steps);
         return true;
     }
-    sum_up(
-        ctx,
-        source.step,
-        source.lower,
-        source.index,
-        source.needed,
-        x,
-        shorter,
-        sums,
-        steps,
-    )
+    sum_up(ctx, source, x, shorter, sums, steps)
 }
 
 /// The sums become those of a polynomial that was found before. It counts as one polynomial added up.

@@ -1,11 +1,20 @@
 -- The step by the least left descent is a choice; and no choice has fewer corrections than the one that is taken.
-use Rattle.std.proofs.Common.{refl, arith}
+use Rattle.std.proofs.Common.{◌≡◌, ℕ, refl, arith}
+use Rattle.cox_base.specs.declared.side.Side.{Side}
 use Rattle.cox_base.specs.declared.side.Side.TheVariants.{Left}
 use Rattle.cox_base.specs.IntegerMatrix.{integer_matrix}
+use Rattle.cox_context.specs.Closed.{Elements}
 use Rattle.cox_context.specs.Numbers.{word_at}
-use Rattle.cox_klstep.specs.StepOf.{correction_at}
+use Rattle.cox_klstep.specs.declared.step.Step.{Step}
+use Rattle.cox_klstep.specs.StepOf.{correction_at, AreNumbered, IsRowStep}
 use Rattle.cox_klstep.proofs.Chosen.{numbered-same, least-needs}
 use Rattle.cox_klstep.proofs.choice.step_with_fewest_corrections.Goals as goal
+
+-- the corrections of a step to the member i, by the descent that it is made of
+numbered-by : (e : Elements) (side : Side) (letter member i : ℕ) (step : Step) → step.side ≡ side → step.letter ≡ letter
+    → step.member ≡ member → member ≡ i → IsRowStep e step
+    → AreNumbered side (integer_matrix e.matrix) e.members letter (word_at e.members i) step.corrections.items
+numbered-by e side letter member i step side_is letter_is member_is same is = rw (side_is, letter_is, member_is, same) at is.numbered
 
 pub with_fewest_corrections-best-requires-clause-start : goal.with_fewest_corrections-best-requires-clause-start
 with_fewest_corrections-best-requires-clause-start g c =
@@ -58,12 +67,8 @@ returns-then-best-start-clause-fewest g c = λ side s h list are.
 
 pub returns-clause-corrected : goal.returns-clause-corrected
 returns-clause-corrected g c = λ k l.
-    let n = rw (
-      c.in_ok-step.ensures.side,
-      c.in_ok-step.ensures.letter,
-      c.in_ok-step.ensures.number,
-      c.with_fewest_corrections-best.ensures.choice.member,
-    ) at c.in_ok-step.ensures.step.numbered
+    let n = numbered-by c.args.ctx.now _ _ _ _ c.in_ok-step.step c.in_ok-step.ensures.side c.in_ok-step.ensures.letter
+    c.in_ok-step.ensures.number c.with_fewest_corrections-best.ensures.choice.member c.in_ok-step.ensures.step
     in c.with_fewest_corrections-best.ensures.choice.corrected (correction_at c.in_ok-step.step.corrections.items k).number
     (correction_at c.in_ok-step.step.corrections.items k).factor (n.within k l) (n.each k l)
 
@@ -71,12 +76,8 @@ pub returns-clause-few : goal.returns-clause-few
 returns-clause-few g c = λ s numbers least are.
     let first = rw (c.in_ok-first.ensures.side, c.in_ok-first.ensures.letter, c.in_ok-first.ensures.number, c.of-least.ensures.number)
     at c.in_ok-first.ensures.step.numbered
-    in let n = rw (
-      c.in_ok-step.ensures.side,
-      c.in_ok-step.ensures.letter,
-      c.in_ok-step.ensures.number,
-      c.with_fewest_corrections-best.ensures.choice.member,
-    ) at c.in_ok-step.ensures.step.numbered
+    in let n = numbered-by c.args.ctx.now _ _ _ _ c.in_ok-step.step c.in_ok-step.ensures.side c.in_ok-step.ensures.letter
+    c.in_ok-step.ensures.number c.with_fewest_corrections-best.ensures.choice.member c.in_ok-step.ensures.step
     in let mine = rw c.of-least.ensures.number at c.of-least.ensures.descent.least
     in let most = least-needs (integer_matrix c.args.ctx.now.matrix) c.args.ctx.now.members c.of-least.result.letter
     (word_at c.args.ctx.now.members c.args.i) s mine least c.in_ok-first.first.corrections.items first numbers are
@@ -91,12 +92,8 @@ returns-clause-few g c = λ s numbers least are.
 
 pub returns-clause-fewest : goal.returns-clause-fewest
 returns-clause-fewest g c = λ side s h list are.
-    let n = rw (
-      c.in_ok-step.ensures.side,
-      c.in_ok-step.ensures.letter,
-      c.in_ok-step.ensures.number,
-      c.with_fewest_corrections-best.ensures.choice.member,
-    ) at c.in_ok-step.ensures.step.numbered
+    let n = numbered-by c.args.ctx.now _ _ _ _ c.in_ok-step.step c.in_ok-step.ensures.side c.in_ok-step.ensures.letter
+    c.in_ok-step.ensures.number c.with_fewest_corrections-best.ensures.choice.member c.in_ok-step.ensures.step
     in let many = c.with_fewest_corrections-best.ensures.choice.many c.in_ok-step.step.corrections.items n
     in let fewest = rw c.of-least.ensures.number at c.with_fewest_corrections-best.ensures.fewest
     in let few = fewest side s h list are

@@ -10,31 +10,31 @@ skip-requires-clause-outside c = λ b.
     let never = c.put_polynomial.ensures.below.1 (rw c.done-x.ensures b) in absurd (cc c.if-not-put_polynomial.true)
 
 pub returns-then-not-put_polynomial-clause-steps : goal.returns-then-not-put_polynomial-clause-steps
-returns-then-not-put_polynomial-clause-steps c = λ start before. cost-next c.args.ctx.now c.args.i (source_cost c.args.source.now) start
-    c.args.builder.now.done c.args.steps.now c.put_polynomial.new.steps c.put_polynomial.result c.requires.extremal
-    (omega (arith, c.requires.x, c.requires.i)) (rw c.done-x.ensures at c.put_polynomial.ensures.below.0)
-    c.put_polynomial.ensures.none c.put_polynomial.ensures.steps before
+returns-then-not-put_polynomial-clause-steps c = λ start before. cost-next c.args.task.now.ctx.now c.args.task.now.member
+    (source_cost c.args.task.now.source.now) start c.args.builder.now.done c.args.steps.now c.put_polynomial.new.steps
+    c.put_polynomial.result c.requires.extremal (omega (arith, c.requires.x, c.requires.task.member))
+    (rw c.done-x.ensures at c.put_polynomial.ensures.below.0) c.put_polynomial.ensures.none c.put_polynomial.ensures.steps before
 
 pub returns-then-not-put_polynomial-clause-counted : goal.returns-then-not-put_polynomial-clause-counted
-returns-then-not-put_polynomial-clause-counted c = λ start before. counted-next c.args.ctx.now c.args.i start c.args.builder.now.done
-    c.args.steps.now c.put_polynomial.new.steps c.put_polynomial.result (rw c.done-x.ensures at c.put_polynomial.ensures.below.1)
-    c.put_polynomial.ensures.some c.put_polynomial.ensures.kept before
+returns-then-not-put_polynomial-clause-counted c = λ start before. counted-next c.args.task.now.ctx.now c.args.task.now.member start
+    c.args.builder.now.done c.args.steps.now c.put_polynomial.new.steps c.put_polynomial.result
+    (rw c.done-x.ensures at c.put_polynomial.ensures.below.1) c.put_polynomial.ensures.some c.put_polynomial.ensures.kept before
 
 pub returns-clause-underway : goal.returns-clause-underway
 returns-clause-underway c =
-    let fits : FitsSigned w64 c.args.limit = search rules
-    in simp (to_z-of_z w64 c.args.limit fits) at c.keep.ensures.underway
+    let fits : FitsSigned w64 c.args.task.now.limit = search rules
+    in simp (to_z-of_z w64 c.args.task.now.limit fits) at c.keep.ensures.underway
 
 pub returns-clause-steps : goal.returns-clause-steps
-returns-clause-steps c = λ start before. cost-next c.args.ctx.now c.args.i (source_cost c.args.source.now) start
-    c.args.builder.now.done c.args.steps.now c.put_polynomial.new.steps c.put_polynomial.result c.requires.extremal
-    (omega (arith, c.requires.x, c.requires.i)) (rw c.done-x.ensures at c.put_polynomial.ensures.below.0)
-    c.put_polynomial.ensures.none c.put_polynomial.ensures.steps before
+returns-clause-steps c = λ start before. cost-next c.args.task.now.ctx.now c.args.task.now.member
+    (source_cost c.args.task.now.source.now) start c.args.builder.now.done c.args.steps.now c.put_polynomial.new.steps
+    c.put_polynomial.result c.requires.extremal (omega (arith, c.requires.x, c.requires.task.member))
+    (rw c.done-x.ensures at c.put_polynomial.ensures.below.0) c.put_polynomial.ensures.none c.put_polynomial.ensures.steps before
 
 pub returns-clause-counted : goal.returns-clause-counted
-returns-clause-counted c = λ start before. counted-next c.args.ctx.now c.args.i start c.args.builder.now.done
-    c.args.steps.now c.put_polynomial.new.steps c.put_polynomial.result (rw c.done-x.ensures at c.put_polynomial.ensures.below.1)
-    c.put_polynomial.ensures.some c.put_polynomial.ensures.kept before
+returns-clause-counted c = λ start before. counted-next c.args.task.now.ctx.now c.args.task.now.member start
+    c.args.builder.now.done c.args.steps.now c.put_polynomial.new.steps c.put_polynomial.result
+    (rw c.done-x.ensures at c.put_polynomial.ensures.below.1) c.put_polynomial.ensures.some c.put_polynomial.ensures.kept before
 
 pub returns-then-not-put_polynomial-clause-underway : goal.returns-then-not-put_polynomial-clause-underway
-returns-then-not-put_polynomial-clause-underway c = c.skip.ensures.underway c.args.limit c.requires.underway
+returns-then-not-put_polynomial-clause-underway c = c.skip.ensures.underway c.args.task.now.limit c.requires.underway

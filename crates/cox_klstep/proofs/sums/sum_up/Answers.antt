@@ -13,13 +13,13 @@ use Rattle.cox_klstep.proofs.sums.sum_up.Goals as goal
 
 pub returns-then-not-add-clause-below : goal.returns-then-not-add-clause-below
 returns-then-not-add-clause-below c =
-    let lowered = below-lowered c.args.step.now.side (integer_matrix c.args.ctx.now.matrix) c.len-len.ensures.admissible
-    c.args.ctx.now.members
-    c.len-len.ensures.closed c.args.step.now.member c.requires.step.within c.args.step.now.letter c.requires.step.descent
-    c.args.step.now.corrections.items c.requires.step.numbered c.args.x c.args.shorter c.args.step.now.lower
-    (extremal-descent c.args.step.now.side (integer_matrix c.args.ctx.now.matrix) c.args.step.now.letter
-    (word_at c.args.ctx.now.members c.args.step.now.member) (word_at c.args.ctx.now.members c.args.x) c.requires.extremal
-    c.requires.step.descent) c.requires.shorter.1 c.requires.step.lower_is
+    let lowered = below-lowered c.args.source.now.step.now.side (integer_matrix c.args.ctx.now.matrix) c.len-len.ensures.admissible
+    c.args.ctx.now.members c.len-len.ensures.closed
+    c.args.source.now.step.now.member c.requires.source.step.within c.args.source.now.step.now.letter c.requires.source.step.descent
+    c.args.source.now.step.now.corrections.items c.requires.source.step.numbered c.args.x c.args.shorter c.args.source.now.step.now.lower
+    (extremal-descent c.args.source.now.step.now.side (integer_matrix c.args.ctx.now.matrix) c.args.source.now.step.now.letter
+    (word_at c.args.ctx.now.members c.args.source.now.step.now.member) (word_at c.args.ctx.now.members c.args.x) c.requires.extremal
+    c.requires.source.step.descent) c.requires.shorter.1 c.requires.source.step.lower_is
     in (λ t. lowered.0 (c.if-not-add.ensures.below.0 t), λ b. c.if-not-add.ensures.below.1 (lowered.1 b))
 
 pub add-requires-2-clause-room : goal.add-requires-2-clause-room
@@ -34,13 +34,13 @@ correct-requires-clause-room c = λ k.
 
 pub returns-clause-below : goal.returns-clause-below
 returns-clause-below c =
-    let lowered = below-lowered c.args.step.now.side (integer_matrix c.args.ctx.now.matrix) c.len-len.ensures.admissible
-    c.args.ctx.now.members
-    c.len-len.ensures.closed c.args.step.now.member c.requires.step.within c.args.step.now.letter c.requires.step.descent
-    c.args.step.now.corrections.items c.requires.step.numbered c.args.x c.args.shorter c.args.step.now.lower
-    (extremal-descent c.args.step.now.side (integer_matrix c.args.ctx.now.matrix) c.args.step.now.letter
-    (word_at c.args.ctx.now.members c.args.step.now.member) (word_at c.args.ctx.now.members c.args.x) c.requires.extremal
-    c.requires.step.descent) c.requires.shorter.1 c.requires.step.lower_is
+    let lowered = below-lowered c.args.source.now.step.now.side (integer_matrix c.args.ctx.now.matrix) c.len-len.ensures.admissible
+    c.args.ctx.now.members c.len-len.ensures.closed
+    c.args.source.now.step.now.member c.requires.source.step.within c.args.source.now.step.now.letter c.requires.source.step.descent
+    c.args.source.now.step.now.corrections.items c.requires.source.step.numbered c.args.x c.args.shorter c.args.source.now.step.now.lower
+    (extremal-descent c.args.source.now.step.now.side (integer_matrix c.args.ctx.now.matrix) c.args.source.now.step.now.letter
+    (word_at c.args.ctx.now.members c.args.source.now.step.now.member) (word_at c.args.ctx.now.members c.args.x) c.requires.extremal
+    c.requires.source.step.descent) c.requires.shorter.1 c.requires.source.step.lower_is
     in (λ t. lowered.0 (c.if-not-add.ensures.below.0 t), λ b. c.if-not-add.ensures.below.1 (lowered.1 b))
 
 pub returns-clause-value : goal.returns-clause-value
@@ -49,20 +49,21 @@ returns-clause-value c = λ _.
     in let P : ℕ → Coefficients = λ u. kl_polynomial A c.len-len.ensures.admissible (word_at c.args.ctx.now.members c.args.x)
     (word_at c.args.ctx.now.members u)
     in let a : Coefficients = kl_polynomial A c.len-len.ensures.admissible (word_at c.args.ctx.now.members c.args.shorter)
-    (word_at c.args.ctx.now.members c.args.step.now.lower)
-    in let b : Coefficients = P c.args.step.now.lower
+    (word_at c.args.ctx.now.members c.args.source.now.step.now.lower)
+    in let b : Coefficients = P c.args.source.now.step.now.lower
     in let gives = λ (u : ℕ) (l : u < length c.args.ctx.now.members). kl_polynomial-is A c.len-len.ensures.admissible
     (word_at c.args.ctx.now.members c.args.x) (word_at c.args.ctx.now.members u)
     in let is_a = kl_polynomial-is A c.len-len.ensures.admissible (word_at c.args.ctx.now.members c.args.shorter)
-    (word_at c.args.ctx.now.members c.args.step.now.lower)
-    in let is_b = gives c.args.step.now.lower c.requires.step.lower_within
-    in sums-are c.args.step.now.side (integer_matrix c.args.ctx.now.matrix) c.len-len.ensures.admissible c.args.ctx.now.members
-    c.len-len.ensures.closed c.args.step.now.member c.requires.step.within c.args.step.now.letter c.requires.step.descent
-    c.args.step.now.corrections.items c.requires.step.numbered c.args.x c.args.shorter c.args.step.now.lower
-    (extremal-descent c.args.step.now.side (integer_matrix c.args.ctx.now.matrix) c.args.step.now.letter
-    (word_at c.args.ctx.now.members c.args.step.now.member) (word_at c.args.ctx.now.members c.args.x) c.requires.extremal
-    c.requires.step.descent) c.requires.shorter.1 c.requires.step.lower_is
+    (word_at c.args.ctx.now.members c.args.source.now.step.now.lower)
+    in let is_b = gives c.args.source.now.step.now.lower c.requires.source.step.lower_within
+    in sums-are c.args.source.now.step.now.side (integer_matrix c.args.ctx.now.matrix) c.len-len.ensures.admissible
+    c.args.ctx.now.members c.len-len.ensures.closed
+    c.args.source.now.step.now.member c.requires.source.step.within c.args.source.now.step.now.letter c.requires.source.step.descent
+    c.args.source.now.step.now.corrections.items c.requires.source.step.numbered c.args.x c.args.shorter c.args.source.now.step.now.lower
+    (extremal-descent c.args.source.now.step.now.side (integer_matrix c.args.ctx.now.matrix) c.args.source.now.step.now.letter
+    (word_at c.args.ctx.now.members c.args.source.now.step.now.member) (word_at c.args.ctx.now.members c.args.x) c.requires.extremal
+    c.requires.source.step.descent) c.requires.shorter.1 c.requires.source.step.lower_is
     P a b (coefficient c.correct.new.sums) gives is_a is_b
-    (three-sums a b (numbered_sum P c.args.step.now.corrections.items) (coefficient c.args.sums.now) (coefficient c.add.new.sums)
+    (three-sums a b (numbered_sum P c.args.source.now.step.now.corrections.items) (coefficient c.args.sums.now) (coefficient c.add.new.sums)
     (coefficient c.add-2.new.sums) (coefficient c.correct.new.sums) c.requires.clear (c.add.ensures.sum a is_a) (c.add-2.ensures.sum b is_b)
     (c.correct.ensures.sum P gives))
