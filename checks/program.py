@@ -30,7 +30,8 @@ MOST_WRITTEN = 64 << 20
 
 
 def run(script=b"", arguments=(), name=b"coxeter", prepare=None, **more):
-    """The status, the standard output and the standard error of a run. `prepare` is called in its process before it begins."""
+    """The status, the standard output and the standard error of a run, with no words at all where `name` is None. `prepare` is
+    called in its process before it begins."""
 
     def begin():
         resource.setrlimit(resource.RLIMIT_FSIZE, (MOST_WRITTEN, MOST_WRITTEN))
@@ -40,7 +41,7 @@ def run(script=b"", arguments=(), name=b"coxeter", prepare=None, **more):
     given = {} if "stdin" in more else {"input": script}
     with tempfile.TemporaryFile() as out, tempfile.TemporaryFile() as error:
         streams = {"stdout": out, "stderr": error, **more}
-        words = [name, *arguments]
+        words = [] if name is None else [name, *arguments]
         try:
             ran = subprocess.run(words, executable=COXETER, preexec_fn=begin, timeout=60, **given, **streams)
             status = ran.returncode
@@ -91,11 +92,23 @@ ARGUMENTS = [
     (WRONG, [[b"\xff", "--context=23"], ["--", b"\xff"], [b"--\xff"], [b"\xed\xa0\x80"]]),
 ]
 
+# All options, each in two words. With `--` behind them no more is taken.
+ALL = ["--context", "24", "--roots", "6", "--coef", "1", "--workers", "1"]
+
 
 def arguments():
     for wanted, lists in ARGUMENTS:
         for words in lists:
             COUNT.check(f"arguments {words!r:.100}", run(SCRIPT, words), wanted)
+    COUNT.check("no words, not even a name", run(SCRIPT, name=None), ANSWERED)
+    # Each number of arguments, up to more than are ever taken: with the last one right, and with it wrong.
+    for count in range(13):
+        if count < 10:
+            right = ALL[:count] if count % 2 == 0 else [*ALL[: count - 1], "--"]
+            COUNT.check(f"{count} arguments", run(SCRIPT, right), ANSWERED)
+        for last in ("x", b"\xff") if count else ():
+            wrong = [*[*ALL, "--", "x", "x"][: count - 1], last]
+            COUNT.check(f"{count} arguments, of which {last!r} is the last", run(SCRIPT, wrong), WRONG)
     # Wrong arguments are refused before anything is read, and the program's own name is no argument.
     read_end, write_end = os.pipe()
     COUNT.check("wrong arguments read nothing", run(arguments=["x"], stdin=read_end), WRONG)

@@ -31,7 +31,7 @@ use Rattle.cox_rows.specs.Beyond.{NeedsBeyond}
 use Rattle.cox_rows.specs.Holding.{Holding, HasRow}
 use Rattle.cox_row_builder.specs.declared.fault.StepFault.{StepFault}
 use Rattle.cox_row_builder.specs.Faults.{IsFault}
-use Rattle.cox_rows.specs.RowsFaults.{IsRowsFault, IsFaultOfSome}
+use Rattle.cox_rows.specs.RowsFaults.{IsRowsFault}
 use Rattle.cox_rows.specs.Ensured.{IsEnsured, AreNeedsSmall}
 use Rattle.cox_rows.specs.CountedRows.{AreRowsCounted}
 use Rattle.cox_rows.proofs.CountedRows.{counted-none, counted-trans}
@@ -116,11 +116,6 @@ pub fault-own : {T : Type 0} (e : Elements) (limit : ℤ) (i : ℕ) (result : Re
 fault-own e limit i result g within h = MatchResult-weaker result h (λ x t. t)
     (λ fault f. fault-of_member e limit (IsNeeded (integer_matrix e.matrix) (word_at e.members i)) i fault within
     (itself (same-refl (integer_matrix e.matrix) g (word_at e.members i))) f)
-
-pub fault-some : {T : Type 0} (e : Elements) (limit : ℤ) (i : ℕ) (result : Result T StepFault) → i < length e.members
-    → IfErr result (IsFault (integer_matrix e.matrix) e.members limit (λ w. w ≡ i)) → IfErr result (IsFaultOfSome e limit)
-fault-some e limit i result within h = MatchResult-weaker result h (λ x t. t)
-    (λ fault f. fault-of_member e limit (λ w. Unit {0}) i fault within tt f)
 
 -- ---- the corrections, one after another
 

@@ -1,5 +1,5 @@
 -- The rows of a list are put at their places in a list that is not shorter, one after another.
-use Rattle.std.proofs.Common.{◌≡◌, ◌≢◌, ◌⊎◌, inl, inr, ⊎_elim, ℕ, ◌+◌, ◌<◌, ◌≤◌, List, length, true, Option, None, Some, is_some, refl, sym}
+use Rattle.std.proofs.Common.{◌≡◌, ◌≢◌, ◌⊎◌, inl, inr, ⊎_elim, ℕ, ◌+◌, ◌<◌, ◌≤◌, List, length, true, Option, None, Some, is_some, sym}
 use Rattle.std.proofs.Common.{ap, ◌∙◌, arith}
 use Rattle.std.proofs.lemmas.Bool.{cases_lt, cases_eq}
 use Rattle.cox_row.specs.declared.row.Row.{Row}
@@ -14,15 +14,6 @@ pub record ArePut (rows more : List (Option Row)) (n : ℕ) (all left : List (Op
   pub from : (i : ℕ) → (row_at all i ≡ row_at rows i) ⊎ (row_at all i ≡ row_at more i)
   pub first_there : (i : ℕ) → is_some (row_at rows i) ≡ true → is_some (row_at all i) ≡ true
   pub second_there : (i : ℕ) → i < n → is_some (row_at more i) ≡ true → is_some (row_at all i) ≡ true
-
-pub put-start : (rows more : List (Option Row)) → ArePut rows more 0 rows more
-put-start rows more = record {
-  count = refl;
-  rest = λ i l. refl;
-  from = λ i. inl refl;
-  first_there = λ i some. some;
-  second_there = λ i l some. absurd (omega (arith, l));
-}
 
 module _ (rows more : List (Option Row)) (n : ℕ) (all left rest : List (Option Row)) (h : ArePut rows more n all left)
     (others : (j : ℕ) → j ≢ n → row_at rest j ≡ row_at left j) where

@@ -32,8 +32,8 @@ use cox_row::Row;
 use std::alloc::{AllocError, Global};
 
 impl Rows {
-    /// Makes the rows of Need(z) that are not there, for the member z with the number i, and no others. Where all are there, nothing is
-    /// added up.
+    /// Makes the row of the member z with the number i, if it is not there, and no rows that are not of Need(z). Where all of Need(z) are
+    /// there, nothing is added up.
     ///
     /// `Coefficient` or `Mu` where the row of an element of Need(z) is beyond a limit; what was made before that is held. In A 2, with all
     /// six elements as members, the rows that `121` needs are those of `121`, `21`, `1` and the identity.
@@ -150,8 +150,8 @@ impl Rows {
         Ok(())
     }
 
-    /// Says whether all rows that the row of the member with the number i is made from are held. Then at most one row is left to make. Without
-    /// memory the answer is no.
+    /// Says whether all rows that the row of the member with the number i is made from are held. Then at most one row is left to make.
+    /// Without memory the answer is no.
     pub fn has_needs(&self, i: u32) -> bool
         requires { i < length self.now.elements.members }
         ensures { IsTrue result → HasNeeds self.now.elements (HasRow self.now) i }

@@ -1,6 +1,6 @@
 //! A context, and rows of some of its members.
-ghost use Rattle.std.specs.Prelude.{List, Contains, ◌≡◌, ◌≢◌, ◌⊎◌, ℕ, ◌<◌, ◌≤◌, ◌↔◌, [], length, IfSome, IsSome, IfOk, OnOk, OnErr, Some, None};
-ghost use Rattle.std.specs.Prelude.{is_some, true, pos, ◌≤ℤ◌, IfErr};
+ghost use Rattle.std.specs.Prelude.{List, Contains, ◌≡◌, ◌≢◌, ◌⊎◌, ℕ, ◌<◌, ◌≤◌, ◌↔◌, [], length, IfSome, IsSome, IfOk, OnOk, OnErr};
+ghost use Rattle.std.specs.Prelude.{Some, None, is_some, true, pos, ◌≤ℤ◌, IfErr};
 ghost use Rattle.cox_base.specs.Admissible.{IsAdmissible};
 ghost use Rattle.cox_base.specs.IntegerMatrix.{integer_matrix};
 ghost use Rattle.cox_context.specs.Closed.{IsClosed};

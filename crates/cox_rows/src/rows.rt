@@ -1,6 +1,6 @@
 //! A context with rows of its members: look-ups, and contexts that grow.
-ghost use Rattle.std.specs.Prelude.{List, Contains, OnErr, ◌≡◌, ◌≢◌, ◌⊎◌, true, is_some, ℕ, ◌<◌, ◌≤◌, ◌↔◌, [], length, IfSome, IsSome, IsTrue, IfOk, OnOk};
-ghost use Rattle.std.specs.Prelude.{pos, ◌≤ℤ◌, IfErr};
+ghost use Rattle.std.specs.Prelude.{List, Contains, OnErr, ◌≡◌, ◌≢◌, ◌⊎◌, true, is_some, ℕ, ◌<◌, ◌≤◌, ◌↔◌, [], length, IfSome, IsSome};
+ghost use Rattle.std.specs.Prelude.{IsTrue, IfOk, OnOk, pos, ◌≤ℤ◌, IfErr};
 ghost use Rattle.cox_base.specs.IntegerMatrix.{integer_matrix};
 ghost use Rattle.cox_base.specs.Matrix.{IsWord};
 ghost use Rattle.cox_base.specs.ShortLex.{normal_form};
@@ -177,8 +177,8 @@ impl Rows {
 
     /// Adds the elements x with x <= w to the context, and tells the number of w there. Members and rows keep their numbers.
     ///
-    /// `Size` where there are more than `limit` members then. After a fault all is as before. In A 2 the interval of `12` has four elements,
-    /// the last with the number 3; with that of `21` there are five, the last with the number 4.
+    /// `Size` where there are more than `limit` members then. After a fault all is as before. In A 2 the interval of `12` has four
+    /// elements, the last with the number 3; with that of `21` there are five, the last with the number 4.
     pub fn extend(&mut self, group: &RootTable, w: &Word, limit: u32) -> Result<u32, ContextFault>
         requires matrix { group.now ≡ self.old.elements.matrix }
         requires letters { IsWord group.now.rank w.now.items }
@@ -217,8 +217,8 @@ impl Rows {
     }
 }
 
-/// Tables of the context, from those that it had when it had fewer members, so many. There are none where it is twice as large now, since new
-/// ones may know more symmetries, or where memory does not suffice. The next row makes new ones.
+/// Tables of the context, from those that it had when it had fewer members, so many. There are none where it is twice as large now, since
+/// new ones may know more symmetries, or where memory does not suffice. The next row makes new ones.
 fn grown(context: &Context, before: u32, tables: Option<Tables>) -> Option<Tables>
     requires { IfSome tables (AreEarlierTables context.now) }
     ensures { IfSome result (AreTables context.now) }

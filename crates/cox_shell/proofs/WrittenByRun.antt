@@ -167,8 +167,8 @@ module _ (limits : Limits) (script : Option (List ℕ)) (old : Outlet) (state : 
       all.are_replies)
 
   -- where reading has ended inside a list, the replies to all that was read, and to the end of the list, are due
-  pub EndsReading-due : (lost : Bool) (h : EndsReading lost begins ends) (closing : List Reply) → IsClosing state closing → IsSome state.list
-      → AreDueAtEnd lost limits script supply.left (h.replies ++ closing)
+  pub EndsReading-due : (lost : Bool) (h : EndsReading lost begins ends) (closing : List Reply) → IsClosing state closing
+      → IsSome state.list → AreDueAtEnd lost limits script supply.left (h.replies ++ closing)
   EndsReading-due lost h closing closes some = record {
     given = h.given;
     taken = h.gave ∙ ap (prepend_known h.given) (none_pending-left h.none_pending);

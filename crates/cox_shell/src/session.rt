@@ -153,6 +153,8 @@ impl Session {
         if workers == 1 {
             return self.answer(line, out);
         }
+        // Put together here, in `answer_jobs` and in `run_with` (`top.rt`): a closure that holds the handle `rt` cannot be returned, so no
+        // function can make it for all three.
         let maker = ByWorkers {
             make: |rows: Rows, alloc: Global, wanted: &[u32]| -> Rows
                 requires { IsSync R.row × IsSync G.row × (1 ≤ workers) × AreWithin (length rows.elements.members) wanted.now }
@@ -182,8 +184,8 @@ impl Session {
         self.take_unread(Refusal::ForeignByte, out)
     }
 
-    /// The blocks that are kept of the list that is open: all its blocks, or, of a list that is too long, no more than make it so.
-    /// `None` exactly where none is open.
+    /// The blocks that are kept of the list that is open: all its blocks, or, of a list that is too long, no more than make it so. The
+    /// lines and blocks behind those are shown nowhere. `None` exactly where none is open.
     pub fn blocks(&self) -> Option<&[Block]>
         ensures kept { MatchOption result (self.now.list ≡ None) (λ blocks. self.now.list ≡ Some blocks.now) }
         ensures bounded { IfSome result (λ blocks. IsBounded blocks.now) }
@@ -337,6 +339,10 @@ ghost use Rattle.cox_small.specs.RootCounts.{HasFewSmallRoots};
 ghost use Rattle.cox_replies.specs.SessionLimits.{limits_of};
 
 /// A session with the same group and options, where no row is made yet.
+///
+/// Each workspace has a table of small roots of its own, so the table is built again here, once for each thread that answers blocks, and
+/// for each call of `answer_jobs`. That takes longer than hundreds of short lines. So a thread answers all its blocks in one session, and a
+/// list of few short lines starts no thread (`are_worth_threads` in `workers.rt`).
 fn fresh_work(work: &Workspace, alloc: Global) -> Result<Session, AllocError>
     requires { HasFewSmallRoots (integer_matrix work.now.table) (limits_of work.now.options).roots }
     ensures { IfOk result (λ own. own ≡ record { limits = limits_of work.now.options; group = Some work.now.table; list = None }) }

@@ -10,7 +10,7 @@ use Rattle.cox_claims.proofs.RowTests.{among_either}
 use Rattle.cox_claims.specs.Rule.{how_many}
 use Rattle.cox_claims.proofs.Splits.{how_many-append}
 use Rattle.cox_klstep.specs.NeedsOf.{HasNeeds}
-use Rattle.cox_workers.specs.Work.{IsNeededAt, HasEnded, MadeOfSeen, IsSeatKept}
+use Rattle.cox_workers.specs.SeatChanges.{IsNeededAt, HasEnded, MadeOfSeen, IsSeatKept}
 use Rattle.cox_workers.specs.Filled.{HasSeenEnd, IsNeededForSome, IsSeatGrown, HasMetAll}
 use Rattle.cox_workers.proofs.SeatSteps.{same_seats-refl, same_seats-trans, needs-map, made-trans}
 use Rattle.cox_claims.proofs.Views.{sees-refl, sees-trans}

@@ -9,7 +9,7 @@ use Rattle.cox_row_symmetry.specs.declared.descents.Descent.{Descent}
 use Rattle.cox_row_symmetry.specs.DescentOf.{IsDescentAt}
 use Rattle.cox_klstep.specs.NeedsOf.{AreNeeds}
 use Rattle.cox_klstep.proofs.NeededRows.{shorter-needed, correction-needed, correction-before}
-use Rattle.cox_workers.specs.Work.{IsNeededAt}
+use Rattle.cox_workers.specs.SeatChanges.{IsNeededAt}
 
 module _ (e : Elements) (g : IsAdmissible (integer_matrix e.matrix)) (closed : IsClosed (integer_matrix e.matrix) e.members) (d : Descent)
     (is : IsDescentAt e d) {i : ℕ} (number : d.member ≡ i) where

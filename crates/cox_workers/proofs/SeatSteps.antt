@@ -25,8 +25,8 @@ use Rattle.cox_claims.proofs.RowTests.{among_else}
 use Rattle.cox_claims.proofs.Views.{looked_did, sees-refl, sees-trans}
 use Rattle.cox_workers.specs.declared.missing.Missing.{Missing}
 use Rattle.cox_workers.specs.declared.missing.Missing.TheVariants.{Void, Fault}
-use Rattle.cox_workers.specs.Work.{IsNeededAt, HasEnded, MadeOfSeen, IsSeatKept, VoidsNone, IsVoid}
-use Rattle.cox_workers.specs.Work.{IsRowMissing, IsUnmade}
+use Rattle.cox_workers.specs.SeatChanges.{IsNeededAt, HasEnded, MadeOfSeen, IsSeatKept, VoidsNone, IsVoid}
+use Rattle.cox_workers.specs.SeatChanges.{IsRowMissing, IsUnmade}
 
 -- ---- views
 

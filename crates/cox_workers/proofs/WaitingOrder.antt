@@ -3,7 +3,7 @@ use Rattle.std.proofs.Common.{◌≡◌, ℕ, ◌<◌, sym, ap, ◌∙◌, arith
 use Rattle.cox_claims.specs.declared.seat.Seat.{Seat}
 use Rattle.cox_claims.specs.Knowledge.{among}
 use Rattle.cox_claims.specs.Seats.{view_of, Holds, HoldsBeyond}
-use Rattle.cox_workers.specs.Work.{HoldsFrom}
+use Rattle.cox_workers.specs.SeatChanges.{HoldsFrom}
 
 -- what holds of each row that a seat holds holds of them later too, while it holds the same
 held-still : (P : ℕ → Type 0) (a b : Seat) → (view_of b).held ≡ (view_of a).held → ((j : ℕ) → Holds a j → P j) → (j : ℕ) → Holds b j → P j

@@ -17,7 +17,7 @@ use Rattle.cox_row_store.specs.Stores.{IsSeat}
 use Rattle.cox_workers.specs.declared.worker_context.WorkerContext.{WorkerContext}
 use Rattle.cox_workers.specs.declared.worker_scratch.WorkerScratch.{WorkerScratch}
 use Rattle.cox_workers.specs.Ready.{IsWorkerReady, IsWorkFor}
-use Rattle.cox_workers.specs.Work.{IsNeededAt, IsSeatKept}
+use Rattle.cox_workers.specs.SeatChanges.{IsNeededAt, IsSeatKept}
 use Rattle.cox_workers.proofs.NeedsByNumber.{lower-needed_at}
 use Rattle.cox_workers.proofs.SeatSteps.{kept-trans, kept-needed}
 

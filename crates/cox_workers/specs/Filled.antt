@@ -11,7 +11,7 @@ use Rattle.cox_claims.specs.Rule.{how_many}
 use Rattle.cox_workers.specs.declared.worker_context.WorkerContext.{WorkerContext}
 use Rattle.cox_workers.specs.declared.worker_scratch.WorkerScratch.{WorkerScratch}
 use Rattle.cox_workers.specs.Ready.{IsSeatWith}
-use Rattle.cox_workers.specs.Work.{IsNeededAt, HasEnded, MadeOfSeen}
+use Rattle.cox_workers.specs.SeatChanges.{IsNeededAt, HasEnded, MadeOfSeen}
 
 -- the seat has seen row i Published or Void
 abbrev pub HasSeenEnd : Seat → ℕ → Type 0

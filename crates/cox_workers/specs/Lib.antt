@@ -4,8 +4,8 @@ pub mod Guarded
 pub mod RowsRead
 -- when a worker can work
 pub mod Ready
--- what a worker does to its seat
-pub mod Work
+-- what a worker changes of its seat
+pub mod SeatChanges
 -- what a seat has seen when rows were made
 pub mod Filled
 -- families that are given to rows

@@ -7,7 +7,7 @@ use Rattle.cox_row_store.specs.Stores.{limit_of, IsSeat}
 use Rattle.cox_workers.specs.declared.worker_context.WorkerContext.{WorkerContext}
 use Rattle.cox_workers.specs.declared.worker_scratch.WorkerScratch.{WorkerScratch}
 use Rattle.cox_workers.specs.RowsRead.{IsRead, AreReadRows}
-use Rattle.cox_workers.specs.Work.{IsSeatKept}
+use Rattle.cox_workers.specs.SeatChanges.{IsSeatKept}
 
 -- the seat is one at the store, the scratch memory is for its rows, and the seat has seen all rows Published that are read there
 pub record IsWorkerReady (worker : WorkerContext) (seat : Seat) (scratch : WorkerScratch) : Type 0 where

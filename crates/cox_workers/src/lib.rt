@@ -6,7 +6,8 @@
 //!
 //! Of the calls for one row: `settle` sees it Published or Void; `make_free` makes it if nobody has claimed it; `ensure` claims, makes and
 //! publishes it, or waits for the worker that has claimed it; `provide` makes it after what it needs, as far as nobody has claimed that;
-//! `supply` makes only what it needs; `take_published` lets the worker read it if it is Published by now; `gather` looks for more such rows.
+//! `supply` makes only what it needs; `take_published` lets the worker read it if it is Published by now; `gather` looks for more such
+//! rows.
 //!
 //! - `missing`: why a row is not there
 //! - `read_rows`: rows that a worker reads

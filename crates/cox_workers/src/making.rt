@@ -22,7 +22,7 @@ use std::thread::Threads;
 
 impl<'a> WorkerContext<'a> {
     ghost use Rattle.cox_workers.specs.Ready.{IsWorkerReady, IsWorkFor};
-    ghost use Rattle.cox_workers.specs.Work.{HoldsFrom, IsSeatKept, VoidsNone, IsRowMissing, IsUnmade};
+    ghost use Rattle.cox_workers.specs.SeatChanges.{HoldsFrom, IsSeatKept, VoidsNone, IsRowMissing, IsUnmade};
     ghost use Rattle.cox_workers.specs.RowsRead.{IsRead};
 
     /// Sees to it that the row of the member with the number i is Published, with those that it is made from.

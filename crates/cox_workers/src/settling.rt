@@ -12,7 +12,7 @@ use std::thread::Threads;
 
 impl<'a> WorkerContext<'a> {
     ghost use Rattle.cox_workers.specs.Ready.{IsSeatWith, IsWorkerReady, IsWorkFor};
-    ghost use Rattle.cox_workers.specs.Work.{IsSeatKept};
+    ghost use Rattle.cox_workers.specs.SeatChanges.{IsSeatKept};
     ghost use Rattle.cox_workers.specs.Filled.{HasSeenEnd};
 
     /// Makes the row of a member, unless another worker has claimed it.
@@ -34,8 +34,8 @@ impl<'a> WorkerContext<'a> {
         }
     }
 
-    /// Sees to it that the row of a member is Published or Void, if it is not so already: makes it, or gives it up where there is no scratch
-    /// memory.
+    /// Sees to it that the row of a member is Published or Void, if it is not so already: makes it, or gives it up where there is no
+    /// scratch memory.
     pub(crate) fn settle<R: Threads + Wait + Sync, G: Gate>(
         &self,
         rt: &R,

@@ -21,7 +21,7 @@ pub struct WorkerContext<'a> {
 }
 
 impl<'a> WorkerContext<'a> {
-    ghost use Rattle.cox_workers.specs.Work.{IsSeatKept, VoidsNone};
+    ghost use Rattle.cox_workers.specs.SeatChanges.{IsSeatKept, VoidsNone};
 
     /// The context of the worker with this number.
     pub fn new(

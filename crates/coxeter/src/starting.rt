@@ -15,8 +15,9 @@ const SCRIPT: &str = "type A 3\npol 2 2132\ncompute x\nquit\nfoo\n";
 type Start = (&'static [&'static [u8]], &'static str, &'static str, Status);
 
 const STARTS: &[Start] = &[
-    // Each way in which an input ends, also inside a list.
+    // Each way in which an input ends, also inside a list. No words at all are as good as the name alone.
     (&[b"coxeter"], "", "", Status::Done),
+    (&[], SCRIPT, "1+q\nerror 16\n", Status::Refused),
     (&[b"coxeter"], "quit\nfoo\n", "", Status::Done),
     (
         &[b"coxeter"],
@@ -158,6 +159,41 @@ const STARTS: &[Start] = &[
         "error 21\nerror 31\nerror 32\n1+q\n",
         Status::Refused,
     ),
+    // Ten words, as many as are taken; and ten of which the last is no option.
+    (
+        &[
+            b"coxeter",
+            b"--roots",
+            b"10",
+            b"--context",
+            b"100",
+            b"--coef",
+            b"1",
+            b"--workers",
+            b"1",
+            b"--",
+        ],
+        "type A 5\ntype A 4\nbetti 1213214321\npol e 1234321\npol 2 2132\n",
+        "error 21\nerror 31\nerror 32\n1+q\n",
+        Status::Refused,
+    ),
+    (
+        &[
+            b"coxeter",
+            b"--roots",
+            b"10",
+            b"--context",
+            b"100",
+            b"--coef",
+            b"1",
+            b"--workers",
+            b"1",
+            b"x",
+        ],
+        SCRIPT,
+        USAGE,
+        Status::Usage,
+    ),
     // Wrong arguments; the last one here is no text.
     (&[b"coxeter", b"--foo"], SCRIPT, USAGE, Status::Usage),
     (
@@ -290,14 +326,36 @@ fn arguments(rt: HostRuntime) -> Result<(), Fail> {
     Ok(())
 }
 
+/// The program's name alone, and ten words, as many as are taken.
+const WORDS: &[&[&str]] = &[
+    &["coxeter"],
+    &[
+        "coxeter",
+        "--roots",
+        "10",
+        "--context",
+        "100",
+        "--coef",
+        "1",
+        "--workers",
+        "1",
+        "--",
+    ],
+];
+
 #[test]
 fn reads_nothing_after_quit(rt: HostRuntime) -> Result<(), Fail> {
-    let script = b"type A 2\nquit\nfoo\n".to_vec(rt.alloc())?;
-    let mut source = MemorySource::new(script, 1, Vec::new(rt.alloc()));
-    let mut sink = MemorySink::new(rt.alloc(), 9, 9, Vec::new(rt.alloc()))?;
-    let status = run_one(rt.alloc(), &["coxeter"], &mut source, &mut sink);
-    let mut next = [0u8; 9];
-    let got = source.read(&mut next);
-    assert!(rt; (status, got, next[0]) == (Status::Done, Got::Bytes(1), b'f'));
+    for words in WORDS {
+        let script = b"type A 2\nquit\nfoo\n".to_vec(rt.alloc())?;
+        let mut source = MemorySource::new(script, 1, Vec::new(rt.alloc()));
+        let mut sink = MemorySink::new(rt.alloc(), 9, 9, Vec::new(rt.alloc()))?;
+        let status = run_one(rt.alloc(), words, &mut source, &mut sink);
+        let mut next = [0u8; 9];
+        let got = source.read(&mut next);
+        assert!(rt;
+            (status, got, next[0]) == (Status::Done, Got::Bytes(1), b'f'),
+            "at {words:?}"
+        );
+    }
     Ok(())
 }

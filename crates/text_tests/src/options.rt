@@ -1,5 +1,7 @@
 //! Arguments, and the options that they give.
+use cox_doubles::CommandLine;
 use cox_options::{DEFAULT_WORKERS, MAX_CONTEXT, MAX_ROOTS, OptionFault, read};
+use cox_outside::arguments_of;
 use std::alloc::Global;
 use std::test::Fail;
 
@@ -81,6 +83,24 @@ fn numbers(alloc: Global, words: &[&str]) -> Result<Option<Numbers>, OptionFault
 fn reads_words(rt: HostRuntime) -> Result<(), Fail> {
     for (words, wanted) in CASES {
         assert_eq!(rt; numbers(rt.alloc(), words)?, *wanted, "at {words:?}");
+    }
+    Ok(())
+}
+
+/// What a program was called by, which is no text, and twelve words.
+const WORDS: [&[u8]; 13] = [
+    b"\xff", b"1", b"2", b"3", b"4", b"5", b"6", b"7", b"8", b"9", b"10", b"11", b"",
+];
+
+#[test]
+fn collects_each_word(rt: HostRuntime) -> Result<(), Fail> {
+    for count in 0..14 {
+        let found = arguments_of(&CommandLine(&WORDS[..count]), rt.alloc(), "coxeter")?;
+        let found = found.ok_or("these are texts")?;
+        assert_eq!(rt; found.len(), count.max(1));
+        let mut words = found.iter().map(|text| text.as_bytes());
+        assert!(rt; words.next() == Some(b"coxeter".as_slice()));
+        assert!(rt; words.zip(WORDS.iter().skip(1)).all(|(text, word)| text == *word));
     }
     Ok(())
 }

@@ -80,6 +80,31 @@ impl Write for Stream<'_> {
     }
 }
 
+/// A stream that fails at each call, by this kind of fault.
+#[derive(Drop)]
+struct Failing<'a> {
+    calls: &'a Calls,
+    kind: io::ErrorKind,
+}
+
+impl Read for Failing<'_> {
+    fn read(&mut self, buf: &mut [u8]) -> io::Result<usize> {
+        self.calls.count(buf.len());
+        Err(self.kind.into())
+    }
+}
+
+impl Write for Failing<'_> {
+    fn write(&mut self, buf: &[u8]) -> io::Result<usize> {
+        self.calls.count(buf.len());
+        Err(self.kind.into())
+    }
+
+    fn flush(&mut self) -> io::Result<()> {
+        Ok(())
+    }
+}
+
 /// How many bytes each call of a stream of 20 bytes moves, at most seven; at 0 it fails.
 const MOVED: [[usize; 6]; 3] = [[1, 1, 0, 1, 1, 0], [2, 2, 0, 2, 2, 0], [7, 7, 0, 6, 0, 0]];
 
@@ -127,6 +152,30 @@ fn writes_ask_once(rt: HostRuntime) -> Result<(), Fail> {
             assert_eq!(rt; calls.made.load(SeqCst), made);
             assert_eq!(rt; calls.size.load(SeqCst), size as u64);
         }
+    }
+    Ok(())
+}
+
+/// A fault is told at once, whatever its kind: the call is not made once more.
+#[test]
+fn faults_are_told_at_once(rt: HostRuntime) -> Result<(), Fail> {
+    for kind in [
+        io::ErrorKind::Interrupted,
+        io::ErrorKind::WouldBlock,
+        io::ErrorKind::UnexpectedEof,
+    ] {
+        let calls = Calls::none();
+        let mut source = StdSource::new(Failing {
+            calls: &calls,
+            kind,
+        });
+        let mut sink = StdSink::new(Failing {
+            calls: &calls,
+            kind,
+        });
+        assert_eq!(rt; source.read(&mut [0u8; 1]), Got::Failed);
+        assert_eq!(rt; sink.write(b"a"), Took::Failed);
+        assert_eq!(rt; calls.made.load(SeqCst), 2);
     }
     Ok(())
 }

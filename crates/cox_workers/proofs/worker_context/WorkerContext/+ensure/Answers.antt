@@ -13,7 +13,7 @@ use Rattle.cox_workers.proofs.WaitingOrder.{beyond-still, from-beyond}
 use Rattle.cox_workers.proofs.Working.{ready_still, work-trans, work-needed, work-tables, work-list}
 use Rattle.cox_workers.proofs.NeedsByNumber.{lower-needed_at, correction-needed_at, correction-before_at}
 use Rattle.cox_workers.specs.RowsRead.{IsRead}
-use Rattle.cox_workers.specs.Work.{IsRowMissing}
+use Rattle.cox_workers.specs.SeatChanges.{IsRowMissing}
 use Rattle.cox_klstep.specs.NeedsOf.{AreNeeds}
 use Rattle.cox_base.specs.IntegerMatrix.{integer_matrix}
 use Rattle.cox_context.specs.Numbers.{word_at}

@@ -2,7 +2,7 @@
 use Rattle.std.proofs.Common.{ℕ, ◌<◌, ◌+◌, ◌*◌}
 use Rattle.cox_workers.specs.Ready.{IsWorkFor}
 use Rattle.cox_workers.specs.RowsRead.{IsRead}
-use Rattle.cox_workers.specs.Work.{VoidsNone}
+use Rattle.cox_workers.specs.SeatChanges.{VoidsNone}
 use Rattle.cox_row.specs.Rising.{number_at}
 use Rattle.cox_workers.proofs.worker_context.WorkerContext.+ensure.Given as goal
 

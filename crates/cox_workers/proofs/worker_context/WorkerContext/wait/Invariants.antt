@@ -1,6 +1,6 @@
 -- So far the seat has only looked.
 use Rattle.cox_row_store.specs.Stores.{IsSeat}
-use Rattle.cox_workers.specs.Work.{IsSeatKept, VoidsNone}
+use Rattle.cox_workers.specs.SeatChanges.{IsSeatKept, VoidsNone}
 use Rattle.cox_workers.proofs.worker_context.WorkerContext.wait.Given as goal
 
 abbrev pub invariant-loop : goal.invariant-loop
