@@ -23,7 +23,7 @@ pub mod SignedBasis
 -- R is its own inverse, but for signs
 pub mod RInversion
 -- lengths, and the longest element
-pub mod LongestElement
+pub mod LongestWord
 -- Bruhat order and R, and the longest element
 pub mod TurnedAround
 -- the polynomials P(w0 w, w0 z)

@@ -20,8 +20,8 @@ use Rattle.cox_hecke.proofs.Descents.{some_right_descent}
 use Rattle.cox_hecke.proofs.RPolynomials.{r-right_shorter, r-right_longer, r-right_moved}
 use Rattle.cox_hecke.proofs.ListSums.{same_or_not}
 use Rattle.cox_inverse.specs.Longest.{IsLongest}
-use Rattle.cox_inverse.proofs.LongestElement.{right_descent-length, turned-push, turned-push_twice, turned-back, turned-same}
-use Rattle.cox_inverse.proofs.LongestElement.{turned-descent, turned-ascent}
+use Rattle.cox_inverse.proofs.LongestWord.{right_descent-length, turned-push, turned-push_twice, turned-back, turned-same}
+use Rattle.cox_inverse.proofs.LongestWord.{turned-descent, turned-ascent}
 
 module _ (A : IntegerMatrix) (g : IsAdmissible A) (longest : List ℕ) (is : IsLongest A longest) where
   -- ---- a right descent s of x

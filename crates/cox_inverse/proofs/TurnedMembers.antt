@@ -27,7 +27,7 @@ use Rattle.cox_inverse.specs.WholeGroups.{IsLongestMember, IsTurned}
 use Rattle.cox_inverse.specs.InverseRow.{IsInverse}
 use Rattle.cox_inverse.specs.InverseFaults.{IsInverseWithin, AreWithinLimits}
 use Rattle.cox_inverse.proofs.InversePolynomials.{inverse-unique}
-use Rattle.cox_inverse.proofs.LongestElement.{turned-back}
+use Rattle.cox_inverse.proofs.LongestWord.{turned-back}
 use Rattle.cox_inverse.proofs.TurnedAround.{turned-below}
 use Rattle.cox_inverse.proofs.InversionByLongest.{inversion-longest}
 use Rattle.cox_inverse.proofs.LastMembers.{below-member}

@@ -32,7 +32,7 @@ use Rattle.cox_hecke.proofs.PolynomialValues.{kl_polynomial, kl_polynomial-is_ro
 use Rattle.cox_hecke.proofs.PolynomialValues.{kl_polynomial-same, kl_polynomial-outside}
 use Rattle.cox_inverse.specs.Longest.{IsLongest}
 use Rattle.cox_inverse.proofs.Signs.{sign}
-use Rattle.cox_inverse.proofs.LongestElement.{longest-length, turned-back, turned-same}
+use Rattle.cox_inverse.proofs.LongestWord.{longest-length, turned-back, turned-same}
 use Rattle.cox_inverse.proofs.TurnedAround.{turned-below, below-turned, turned-r}
 
 -- the words name each element below w once

@@ -1,5 +1,5 @@
 -- Each clause is a lemma on lengths, or on Bruhat order.
-use Rattle.cox_inverse.proofs.LongestElement.{longest-length, longest-most, longest-twice, longest-by_length, longest-one}
+use Rattle.cox_inverse.proofs.LongestWord.{longest-length, longest-most, longest-twice, longest-by_length, longest-one}
 use Rattle.cox_inverse.proofs.TurnedAround.{turned-below, below-turned}
 use Rattle.cox_inverse.proofs.laws.longest.Goals as goal
 
