@@ -91,7 +91,6 @@ fn make_row(
     let ctx = task.ctx;
     let i = task.member;
     let lowered = task.lowered;
-    let limit = task.limit;
     let _len = ctx.len();
     let mut builder = RowBuilder::new(alloc, ctx, i);
     let mut cursor = FoundCursor::new(found);
@@ -102,7 +101,7 @@ fn make_row(
         let found = cursor.polynomial(next.member);
         add_extremal(task, next.shorter, found, &mut builder, sums, steps)?;
     }
-    builder.finish(alloc, ctx, i, limit)
+    builder.finish(alloc, ctx, i, task.limit)
 }
 
 /// One extremal member more, from which the step leads to the member `shorter`, with its polynomial if that was found before.
