@@ -25,14 +25,17 @@ PutsPrefix-none text before after same = record { prefix = []; rest = text; part
 pub far-refused : (A : IntegerMatrix) (y w : List ℕ) (d : ℕ) → IsDeep A y w d → IsRefused (RefusesFar A y w) (Some FarApart)
 far-refused A y w d deep = inr (λ none. none, inr (λ none. none, inl ((deep.below, omega (arith, deep.difference, deep.above)), refl)))
 
+-- the R-polynomial of elements that are far apart is of that degree
+pub far-deep : (A : IntegerMatrix) (y w : List ℕ) → RefusesFar A y w FarApart → IsDeep A y w (word_length A w - word_length A y)
+far-deep A y w far = record { below = far.0; difference = omega (arith, far.1); above = omega (arith, far.1) }
+
 pub far-allowed : (A : IntegerMatrix) (y w : List ℕ) → ((d : ℕ) → IsDeep A y w d → ⊥) → IsRefused (RefusesFar A y w) None
 far-allowed A y w near = inr (
   λ none. none,
   inr (
     λ none. none,
     inr (
-      λ far. near (word_length A w - word_length A y)
-          (record { below = far.0; difference = omega (arith, far.1); above = omega (arith, far.1) }),
+      λ far. near (word_length A w - word_length A y) (far-deep A y w far),
       inr (λ none. none, refl),
     ),
   ),

@@ -1,5 +1,5 @@
 //! The answers on polynomials of two elements.
-ghost use Rattle.std.specs.Prelude.{◌≡◌};
+ghost use Rattle.std.specs.Prelude.{◌≡◌, Err};
 ghost use Rattle.cox_base.specs.Matrix.{IsWord};
 ghost use Rattle.cox_base.specs.IntegerMatrix.{integer_matrix};
 ghost use Rattle.cox_replies.specs.InquiryQuestion.{RefusesFar, r_text};
@@ -15,8 +15,10 @@ use cox_rpoly::{RFault, r};
 pub fn put_rpol(out: &mut Vec<u8>, table: &RootTable, y: &Word, w: &Word) -> Result<(), Unanswered>
     requires first { IsWord table.now.rank y.now.items }
     requires second { IsWord table.now.rank w.now.items }
-    ensures { PutsUnless result (RefusesFar (integer_matrix table.now) y.now.items w.now.items)
+    ensures puts { PutsUnless result (RefusesFar (integer_matrix table.now) y.now.items w.now.items)
         (λ text. text ≡ r_text (integer_matrix table.now) y.now.items w.now.items) out.old.items out.new.items }
+    ensures far { RefusesFar (integer_matrix table.now) y.now.items w.now.items Refusal.FarApart
+        → result ≡ Err (Unanswered.Refused Refusal.FarApart) }
 {
     let _rank = table.group().rank();
     prove!(y.len() <= MAX_LETTERS && w.len() <= MAX_LETTERS);

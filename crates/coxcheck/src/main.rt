@@ -1,10 +1,10 @@
 //! The program `coxcheck`: it checks the certificate on standard input, and writes the verdict on standard output.
 //!
-//! It ends with the number of a `cox_cert::CheckStatus`. What it writes is proved in `cox_cert`. `main` makes the standard streams, collects
-//! the arguments, which may run out of memory, and gives the status out. Of words behind the program's name it matters only that there are
-//! some, so where one is no text another stands for it. Each function but `main` is generic over the source and the sink, and its contract
-//! is that of one whole check, `IsCheck` of `cox_cert`, with the arguments that were collected, so nothing is read or written before it,
-//! behind it or beside it.
+//! It ends with the number of a `cox_cert::CheckStatus`. What it writes is proved in `cox_cert`. `main` makes the standard streams,
+//! collects the arguments, which may run out of memory, and gives the status out. Of words behind the program's name it matters only that
+//! there are some, so where one is no text another stands for it. Each function but `main` is generic over the source and the sink, and its
+//! contract is that of one whole check, `IsCheck` of `cox_cert`, with the arguments that were collected, so nothing is read or written
+//! before it, behind it or beside it.
 #![tactic(auto)]
 
 ghost use Rattle.std.specs.Prelude.{◌≡◌, ◌≢◌, ℕ, List, [], map, drop, IfOk, IfErr, IfSome, IfNone};

@@ -1,5 +1,5 @@
 -- The proof of `run_arguments`: words follow the name where there are two arguments.
-use Rattle.std.proofs.Common.{drop, map, refl, arith}
+use Rattle.std.proofs.Common.{drop, map, refl}
 use Rattle.std.specs.String.{string_bytes}
 use Rattle.cox_cert.proofs.WholeChecks.{check-words, behind-none, behind-some}
 use Rattle.coxcheck.proofs.run_arguments.Goals as goal

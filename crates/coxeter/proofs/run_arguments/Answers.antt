@@ -2,7 +2,7 @@
 use Rattle.std.proofs.Common.{◌≡◌, map, ap, ◌∙◌}
 use Rattle.std.specs.String.{string_bytes}
 use Rattle.cox_shell.specs.Top.{argument_texts}
-use Rattle.cox_shell.proofs.RunContract.{run-none, read-none}
+use Rattle.cox_shell.proofs.UnreadRuns.{run-none, read-none}
 use Rattle.coxeter.proofs.run_arguments.Goals as goal
 
 pub returns-in-Ok-clause-run : goal.returns-in-Ok-clause-run

@@ -1,6 +1,6 @@
 -- The proof of `start`: the arguments of the run that it is.
 use Rattle.std.proofs.Common.{[]}
-use Rattle.cox_shell.proofs.RunContract.{run-none, read-none}
+use Rattle.cox_shell.proofs.UnreadRuns.{run-none, read-none}
 use Rattle.coxeter.proofs.start.Goals as goal
 
 pub returns-in-Ok-Some-clause-run : goal.returns-in-Ok-Some-clause-run

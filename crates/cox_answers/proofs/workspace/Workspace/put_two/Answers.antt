@@ -5,4 +5,4 @@ pub returns-in-Interval : goal.returns-in-Interval
 returns-in-Interval c = rw c.in-Interval.is (rw (c.options.ensures, c.table-table.ensures) at c.put_interval.ensures)
 
 pub returns-in-Rpol : goal.returns-in-Rpol
-returns-in-Rpol c = rw c.in-Rpol.is (rw c.table-table.ensures at c.put_rpol.ensures)
+returns-in-Rpol c = rw c.in-Rpol.is (rw c.table-table.ensures at c.put_rpol.ensures.puts)
