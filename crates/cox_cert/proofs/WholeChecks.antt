@@ -1,24 +1,25 @@
 -- The contract of a whole check, from what was read and what was written.
-use Rattle.std.proofs.Common.{◌≡◌, ◌≢◌, ◌⊎◌, inl, inr, ℕ, ◌<◌, ◌≤◌, true, List, [], ◌∷◌, length, map, drop}
+use Rattle.std.proofs.Common.{◌≡◌, ◌≢◌, ◌⊎◌, inl, inr, ℕ, ◌<◌, ◌≤◌, true, false, List, [], ◌∷◌, length, map, drop}
 use Rattle.std.proofs.Common.{Option, Some, None}
 use Rattle.std.proofs.Common.{refl, sym, subst, arith}
 use Rattle.std.specs.Prelude.{IsSomeAnd}
 use Rattle.std.specs.Option.{IfSome}
 use Rattle.cox_outside.specs.declared.limits.TheConstants.{INPUT_LIMIT}
 use Rattle.cox_outside.specs.FaultCount.{count_after}
-use Rattle.cox_outside.specs.Supply.{Supply}
+use Rattle.cox_outside.specs.Supply.{Supply, SourceCause}
 use Rattle.cox_outside.specs.Outlet.{Outlet}
+use Rattle.cox_outside.proofs.Known.{prepend_known-none, Writes-none}
 use Rattle.cox_cert.specs.declared.status.Cause.{Cause}
 use Rattle.cox_cert.specs.declared.status.Cause.TheVariants.{Grammar, Top, Interval, Size, Row}
 use Rattle.cox_cert.specs.declared.status.CheckStatus.{CheckStatus}
 use Rattle.cox_cert.specs.declared.status.CheckStatus.TheVariants.{Yes, No, Usage, ReadFault, WriteFault, NoMemory, InputLimit}
 use Rattle.cox_certtext.specs.Certificate.{Certificate, Gives, contents}
 use Rattle.cox_cert.specs.Causes.{IsFirstCause, IsProof}
-use Rattle.cox_cert.specs.Checks.{ReadsAll, IsCheck}
+use Rattle.cox_cert.specs.Checks.{ReadsAll, ReadsWithin, IsCheck}
 use Rattle.cox_cert.specs.Judgements.{IsJudged}
 use Rattle.cox_cert.specs.Unhindered.{Rose, IsUnhindered}
 use Rattle.cox_cert.proofs.Verdicts.{no_cause}
-use Rattle.cox_cert.specs.Verdicts.{IsVerdict}
+use Rattle.cox_cert.specs.Verdicts.{IsVerdict, Tells}
 
 -- ---- the verdict
 
@@ -92,6 +93,62 @@ check-words status words others source left old new forth back h = record {
   };
   within = h.within;
 }
+
+-- memory ran out before anything was read or written, and no words follow the name
+pub check-none : (supply : Supply) (outlet : Outlet) → IsCheck NoMemory [] supply supply outlet outlet
+check-none supply outlet = record {
+  says = tt;
+  usage = λ e. cc e;
+  usage_always = λ some. absurd (some refl);
+  read_fault = record { faults = refl; same_sure = refl; unsure = λ e. cc e };
+  write_fault = refl;
+  writes = λ told. Writes-none outlet;
+  cut = λ e. cc e;
+  within = ([], sym (prepend_known-none supply.left), omega arith);
+}
+
+-- where words follow the name, the usage line is told, or a write failed, and nothing was read
+unread : (source : Supply) → SourceCause source source false × ReadsWithin source.left source.left
+unread source = (
+  record { faults = refl; same_sure = refl; unsure = λ e. cc e },
+  ([], sym (prepend_known-none source.left), omega arith),
+)
+
+pub check-usage : (status : CheckStatus) (words : List (List ℕ)) (source : Supply) (old new : Outlet) → words ≢ []
+    → Tells status Usage old new → IsCheck status words source source old new
+check-usage Usage words source old new some t = record {
+  says = tt;
+  usage = λ e. some;
+  usage_always = λ more. inl refl;
+  read_fault = (unread source).0;
+  write_fault = t.cause;
+  writes = t.writes;
+  cut = λ e. cc e;
+  within = (unread source).1;
+}
+check-usage WriteFault words source old new some t = record {
+  says = tt;
+  usage = λ e. cc e;
+  usage_always = λ more. inr refl;
+  read_fault = (unread source).0;
+  write_fault = t.cause;
+  writes = λ told. absurd (told refl);
+  cut = λ e. let c = t.cut refl in record {
+    due = Usage;
+    is_due = record { says = tt; usage = λ d. some; usage_always = λ more. refl };
+    some = c.some;
+    prefix = c.prefix;
+    is_prefix = c.is_prefix;
+    writes = c.writes;
+    room = c.room;
+  };
+  within = (unread source).1;
+}
+check-usage Yes words source old new some t = absurd (cc (t.same (λ e. cc e)))
+check-usage (No cause) words source old new some t = absurd (cc (t.same (λ e. cc e)))
+check-usage ReadFault words source old new some t = absurd (cc (t.same (λ e. cc e)))
+check-usage NoMemory words source old new some t = absurd (cc (t.same (λ e. cc e)))
+check-usage InputLimit words source old new some t = absurd (cc (t.same (λ e. cc e)))
 
 -- ---- without faults
 

@@ -1,7 +1,7 @@
 //! The whole check.
-ghost use Rattle.std.specs.Prelude.{◌≡◌, ◌<◌, length};
-ghost use Rattle.cox_outside.specs.Supply.{SourceCause};
-ghost use Rattle.cox_cert.specs.Checks.{IsCheck, IsCheckDue, ReadsWithin, is_check_read_fault, words_behind};
+ghost use Rattle.std.specs.Prelude.{◌≡◌, ◌≢◌, ◌<◌, ℕ, List, [], length};
+ghost use Rattle.cox_outside.specs.Supply.{Supply, SourceCause};
+ghost use Rattle.cox_cert.specs.Checks.{IsCheck, ReadsWithin, is_check_read_fault, words_behind};
 ghost use Rattle.cox_cert.specs.Verdicts.{IsVerdict, IsTold, Tells};
 
 use crate::collecting::collect;
@@ -24,22 +24,19 @@ pub fn check<S: Source, K: Sink>(
     ensures check { IsCheck result (words_behind words.now) (S.seen source.old) (S.seen source.new) (K.seen sink.old) (K.seen sink.new) }
     ensures unread { 1 < length words.now → source.new ≡ source.old }
 {
-    let due = due(alloc, words, source);
+    if words.len() > 1 {
+        return refuse_words(sink);
+    }
+    let due = verdict(alloc, source);
     tell(sink, due)
 }
 
-/// The status that is due, before anything is written.
-fn due<S: Source>(alloc: Global, words: &[&str], source: &mut S) -> CheckStatus
-    ensures due { IsCheckDue result (words_behind words.now) (S.seen source.old).left (S.seen source.new).left }
-    ensures told { IsTold result }
-    ensures within { ReadsWithin (S.seen source.old).left (S.seen source.new).left }
-    ensures cause { SourceCause (S.seen source.old) (S.seen source.new) (is_check_read_fault result) }
-    ensures unread { 1 < length words.now → source.new ≡ source.old }
+/// What [`check`] does where words follow the program's name, whichever these are: it writes the usage line, and reads nothing.
+pub fn refuse_words<K: Sink>(sink: &mut K) -> CheckStatus
+    ensures { (words : List (List ℕ)) → words ≢ [] → (source : Supply)
+        → IsCheck result words source source (K.seen sink.old) (K.seen sink.new) }
 {
-    if words.len() > 1 {
-        return CheckStatus::Usage;
-    }
-    verdict(alloc, source)
+    tell(sink, CheckStatus::Usage)
 }
 
 /// How the check of the text ends, before anything is written.

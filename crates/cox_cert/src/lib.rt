@@ -22,5 +22,5 @@ mod parts;
 mod reading;
 mod status;
 
-pub use checking::check;
+pub use checking::{check, refuse_words};
 pub use status::{Cause, CheckStatus};

@@ -1,18 +1,19 @@
 //! The program `coxcheck`: it checks the certificate on standard input, and writes the verdict on standard output.
 //!
-//! It ends with the number of a `cox_cert::CheckStatus`. What it writes is proved in `cox_cert`. `main` makes the standard streams,
-//! collects the arguments, which may run out of memory, and gives the status out. Of words behind the program's name it matters only that
-//! there are some, so where one is no text another stands for it. Each function but `main` is generic over the source and the sink, and its
-//! contract is that of one whole check, `IsCheck` of `cox_cert`, with the arguments that were collected, so nothing is read or written
-//! before it, behind it or beside it.
+//! It ends with the number of a `cox_cert::CheckStatus`. What it writes is proved in `cox_cert`. `main` collects the arguments, which may
+//! run out of memory, and makes the standard streams. Of words behind the program's name it matters only that there are some, so one that
+//! is no text is refused as any other. Each function but `main` is generic over the source and the sink, and its contract is that of one
+//! whole check, `IsCheck` of `cox_cert`, with the arguments that were collected, so nothing is read or written before it, behind it or
+//! beside it.
 #![tactic(auto)]
 
 ghost use Rattle.std.specs.Prelude.{◌≡◌, ◌≢◌, ℕ, List, [], map, drop, IfOk, IfErr, IfSome, IfNone};
 ghost use Rattle.std.specs.Process.{exit_status};
 ghost use Rattle.std.specs.String.{string_bytes};
 ghost use Rattle.cox_cert.specs.Checks.{IsCheck, check_code_of};
+ghost use Rattle.cox_cert.specs.declared.status.CheckStatus.{CheckStatus};
 
-use cox_cert::{CheckStatus, check};
+use cox_cert::{CheckStatus, check, refuse_words};
 use cox_outside::{Sink, Source, StdSink, StdSource, arguments_of};
 use std::alloc::{AllocError, Global};
 use std::io;
@@ -20,15 +21,6 @@ use std::process::ExitCode;
 
 /// What the program is called, as its first argument.
 const NAME: &str = "coxcheck";
-
-/// A check where words follow the name, which is refused.
-fn refuse<S: Source, K: Sink>(alloc: Global, source: &mut S, sink: &mut K) -> CheckStatus
-    ensures check { (words : List (List ℕ)) → words ≢ []
-        → IsCheck result words (S.seen source.old) (S.seen source.new) (K.seen sink.old) (K.seen sink.new) }
-    ensures unread { source.new ≡ source.old }
-{
-    check(alloc, &[NAME, ""], source, sink)
-}
 
 /// Checks with these arguments.
 fn run_arguments<S: Source, K: Sink>(
@@ -42,7 +34,7 @@ fn run_arguments<S: Source, K: Sink>(
     ensures unread { drop 1 (map string_bytes arguments.now) ≢ [] → source.new ≡ source.old }
 {
     if arguments.len() > 1 {
-        return refuse(alloc, source, sink);
+        return refuse_words(sink);
     }
     check(alloc, &[NAME], source, sink)
 }
@@ -55,6 +47,9 @@ fn start<S: Source, K: Sink>(
     source: &mut S,
     sink: &mut K,
 ) -> CheckStatus
+    ensures check { (words : List (List ℕ))
+        × IsCheck result words (S.seen source.old) (S.seen source.new) (K.seen sink.old) (K.seen sink.new)
+        × (words ≢ [] → source.new ≡ source.old) }
     ensures texts { IfOk collected (λ found. IfSome found (λ arguments. IsCheck result (drop 1 (map string_bytes arguments.items))
         (S.seen source.old) (S.seen source.new) (K.seen sink.old) (K.seen sink.new))) }
     ensures no_texts { IfOk collected (λ found. IfNone found ((words : List (List ℕ)) → words ≢ []
@@ -66,7 +61,7 @@ fn start<S: Source, K: Sink>(
 {
     match collected {
         Ok(Some(arguments)) => run_arguments(alloc, &arguments, source, sink),
-        Ok(None) => refuse(alloc, source, sink),
+        Ok(None) => refuse_words(sink),
         Err(_) => CheckStatus::NoMemory,
     }
 }
@@ -78,9 +73,25 @@ fn exit_code(status: CheckStatus) -> ExitCode
     ExitCode::from(status.code())
 }
 
+/// Checks with the arguments that were collected, and gives the status out. No contract tells which arguments an environment has, so this
+/// one speaks of a check with some words behind the name.
+fn ended<S: Source, K: Sink>(
+    alloc: Global,
+    collected: Result<Option<Vec<String>>, AllocError>,
+    source: &mut S,
+    sink: &mut K,
+) -> ExitCode
+    ensures { (status : CheckStatus) × (exit_status result ≡ check_code_of status) × (words : List (List ℕ))
+        × IsCheck status words (S.seen source.old) (S.seen source.new) (K.seen sink.old) (K.seen sink.new)
+        × (words ≢ [] → source.new ≡ source.old) }
+{
+    exit_code(start(alloc, collected, source, sink))
+}
+
 fn main(rt: HostRuntime) -> ExitCode {
+    let alloc = rt.alloc();
+    let collected = arguments_of(&rt, alloc, NAME);
     let mut source = StdSource::new(rt.reader());
     let mut sink = StdSink::new(io::writer(&rt));
-    let collected = arguments_of(&rt, rt.alloc(), NAME);
-    exit_code(start(rt.alloc(), collected, &mut source, &mut sink))
+    ended(alloc, collected, &mut source, &mut sink)
 }

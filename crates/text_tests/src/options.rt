@@ -100,7 +100,11 @@ fn collects_each_word(rt: HostRuntime) -> Result<(), Fail> {
         assert_eq!(rt; found.len(), count.max(1));
         let mut words = found.iter().map(|text| text.as_bytes());
         assert!(rt; words.next() == Some(b"coxeter".as_slice()));
-        assert!(rt; words.zip(WORDS.iter().skip(1)).all(|(text, word)| text == *word));
+        assert!(rt;
+            words
+                .zip(WORDS.iter().skip(1))
+                .all(|(text, word)| text == *word)
+        );
     }
     Ok(())
 }

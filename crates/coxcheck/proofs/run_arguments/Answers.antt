@@ -6,8 +6,8 @@ use Rattle.coxcheck.proofs.run_arguments.Goals as goal
 
 pub returns-then-arguments-gt1-clause-check : goal.returns-then-arguments-gt1-clause-check
 returns-then-arguments-gt1-clause-check g c =
-    c.refuse.ensures.check (drop 1 (map string_bytes c.args.arguments.now))
-    (behind-some string_bytes c.args.arguments.now c.if-arguments-gt1.true)
+    c.refuse_words.ensures (drop 1 (map string_bytes c.args.arguments.now))
+    (behind-some string_bytes c.args.arguments.now c.if-arguments-gt1.true) _
 
 pub returns-clause-check : goal.returns-clause-check
 returns-clause-check g c =
