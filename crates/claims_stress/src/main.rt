@@ -1,10 +1,12 @@
 //! A stress test of the table of claims: several threads claim, publish, void and look over one table at once.
 //!
-//! Each row has to be won once, and a row that a worker has seen Published or Void has to stay so, to the end. What is
-//! printed is the same by every schedule.
+//! Each row has to be won once, and a row that a worker has seen Published or Void has to stay so, to the end. A thread
+//! that sleeps on a row has to wake when the row is given up; if it does not, the program never ends. What is printed is
+//! the same by every schedule.
 //!
 //! - work: what one worker does, and what it reports
 //! - tally: what all reports say together
+//! - sleeping: a thread that sleeps on a row that is given up
 #![tactic(auto)]
 
 ghost use Rattle.std.specs.Prelude.{IfOk, All};
@@ -18,6 +20,7 @@ use std::thread::Threads;
 use tally::Tally;
 use work::{Job, Report};
 
+mod sleeping;
 mod tally;
 mod work;
 
@@ -67,5 +70,8 @@ fn main(rt: HostRuntime) -> anyhow::Result<()> {
     println!(rt; "{} rows were won once", tally.won_once())?;
     println!(rt; "{} published, {} void", tally.published(), tally.void())?;
     println!(rt; "{} ended rows changed", tally.changed())?;
+    let (claims, seat) = Claims::new(alloc, 1)?;
+    let state = sleeping::void_under_sleeper(&rt, &claims, seat);
+    println!(rt; "a thread slept on a row, and woke when it was {state:?}")?;
     Ok(())
 }

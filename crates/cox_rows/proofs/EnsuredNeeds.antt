@@ -25,17 +25,18 @@ use Rattle.cox_context.proofs.Shifting.{member-below, first-member, length-at}
 use Rattle.cox_row.specs.Rising.{number_at}
 use Rattle.cox_row_symmetry.specs.declared.descents.Descent.{Descent}
 use Rattle.cox_row_symmetry.specs.DescentOf.{IsDescentAt}
-use Rattle.cox_klstep.specs.NeedsOf.{AreNeeds}
+use Rattle.cox_klstep.specs.NeedsOf.{HasNeeds, AreNeeds}
 use Rattle.cox_row_symmetry.proofs.LowerMembers.{lower-same, shorter-before}
 use Rattle.cox_rows.specs.Beyond.{NeedsBeyond}
 use Rattle.cox_rows.specs.Holding.{Holding, HasRow}
 use Rattle.cox_row_builder.specs.declared.fault.StepFault.{StepFault}
 use Rattle.cox_row_builder.specs.Faults.{IsFault}
 use Rattle.cox_rows.specs.RowsFaults.{IsRowsFault}
-use Rattle.cox_rows.specs.Ensured.{IsEnsured, AreNeedsSmall}
+use Rattle.cox_rows.specs.Ensured.{HoldsNeed, IsNeedClosed, IsEnsured, AreNeedsSmall}
 use Rattle.cox_rows.specs.CountedRows.{AreRowsCounted}
 use Rattle.cox_rows.proofs.CountedRows.{counted-none, counted-trans}
 use Rattle.cox_rows.proofs.FaultsOfRows.{fault-weaker, fault-of_member}
+use Rattle.cox_rows.proofs.MadeNeeds.{made-needs}
 use Rattle.cox_rows.proofs.NeedCases.{least-unique, correction-words}
 use Rattle.cox_rows.proofs.NeedDecided.{needs_beyond-same}
 
@@ -47,6 +48,7 @@ ensured-refl w h = record {
   limit = refl;
   kept = λ j l. l;
   needed = λ j l. inl l;
+  closed = λ was. was;
   counted = counted-none h;
   again = λ all. refl;
 }
@@ -58,9 +60,21 @@ ensured-trans w a b c f h = record {
   kept = λ j l. h.kept j (f.kept j l);
   needed = λ j l. ⊎_elim (λ (old : HasRow b j). f.needed j old)
       (λ (new : IsNeeded (integer_matrix b.elements.matrix) w (word_at b.elements.members j)). inr (rw f.elements at new)) (h.needed j l);
+  closed = λ was. h.closed (f.closed was);
   counted = counted-trans a b c f.elements h.kept f.counted h.counted;
   again = λ all. h.again (rw f.elements (λ j l n. f.kept j (all j l n))) ∙ f.again all;
 }
+
+-- where v is needed by w, what was new is of Need(v), and the other rows of Need(w) were held before
+closed-needed : (a b : Holding) (w v : List ℕ) → IsAdmissible (integer_matrix a.elements.matrix)
+    → IsNeeded (integer_matrix a.elements.matrix) w v → IsEnsured v a b → IsNeedClosed a w → IsNeedClosed b w
+closed-needed a b w v g n h was k needed there = ⊎_elim
+    (λ (old : HasRow a k).
+    rw h.elements (λ j l m. h.kept j (was k (rw h.elements at needed) old j l m)))
+    (λ (new : IsNeeded (integer_matrix a.elements.matrix) v (word_at a.elements.members k)).
+    h.closed (λ x m. was x (needed-trans (integer_matrix a.elements.matrix) g w v (word_at a.elements.members x) n m)) k
+    (rw h.elements new) there)
+    (h.needed k there)
 
 -- what is needed by what w needs
 pub ensured-needed : (a b : Holding) (w v : List ℕ) → IsAdmissible (integer_matrix a.elements.matrix)
@@ -72,32 +86,55 @@ ensured-needed a b w v g n h = record {
   needed = λ j l. ⊎_elim (λ (old : HasRow a j). inl old)
       (λ (new : IsNeeded (integer_matrix a.elements.matrix) v (word_at a.elements.members j)).
       inr (needed-trans (integer_matrix a.elements.matrix) g w v (word_at a.elements.members j) n new)) (h.needed j l);
+  closed = closed-needed a b w v g n h;
   counted = h.counted;
   again = λ all. h.again (λ j l m. all j l (needed-trans (integer_matrix a.elements.matrix) g w v (word_at a.elements.members j) n m));
 }
 
--- the row of w itself is made
-pub ensured-made : (a b : Holding) (i : ℕ) → IsAdmissible (integer_matrix a.elements.matrix) → b.elements ≡ a.elements → b.limit ≡ a.limit
+-- the row of w itself is made, where those that it is made from are held
+closed-made : (a b : Holding) (i : ℕ) → IsAdmissible (integer_matrix a.elements.matrix)
+    → IsClosed (integer_matrix a.elements.matrix) a.elements.members → b.elements ≡ a.elements
     → ((j : ℕ) → HasRow a j → HasRow b j) → ((j : ℕ) → j ≢ i → HasRow b j → HasRow a j) → i < length a.elements.members
-    → AreRowsCounted a b → (HasRow a i → b.steps ≡ a.steps) → IsEnsured (word_at a.elements.members i) a b
-ensured-made a b i g elements limit kept others within counted again = record {
+    → HasNeeds a.elements (HasRow a) i → IsNeedClosed a (word_at a.elements.members i) → IsNeedClosed b (word_at a.elements.members i)
+closed-made a b i g closed elements kept others within needs was k needed there = ⊎_elim
+    (λ (e : k ≡ i). rw (e, elements) (made-needs a b i g closed within kept needs was (rw e at there)))
+    (λ (apart : k ≢ i). rw elements (λ j l m. kept j (was k (rw elements at needed) (others k apart there) j l m)))
+    (cases_eq k i)
+
+pub ensured-made : (a b : Holding) (i : ℕ) → IsAdmissible (integer_matrix a.elements.matrix)
+    → IsClosed (integer_matrix a.elements.matrix) a.elements.members → b.elements ≡ a.elements → b.limit ≡ a.limit
+    → ((j : ℕ) → HasRow a j → HasRow b j) → ((j : ℕ) → j ≢ i → HasRow b j → HasRow a j) → i < length a.elements.members
+    → HasNeeds a.elements (HasRow a) i → AreRowsCounted a b → (HasRow a i → b.steps ≡ a.steps)
+    → IsEnsured (word_at a.elements.members i) a b
+ensured-made a b i g closed elements limit kept others within needs counted again = record {
   elements = elements;
   limit = limit;
   kept = kept;
   needed = λ j l. ⊎_elim
       (λ (e : j ≡ i). inr (rw e (itself (same-refl (integer_matrix a.elements.matrix) g (word_at a.elements.members i)))))
       (λ (apart : j ≢ i). inl (others j apart l)) (cases_eq j i);
+  closed = closed-made a b i g closed elements kept others within needs;
   counted = counted;
   again = λ all. again (all i within (itself (same-refl (integer_matrix a.elements.matrix) g (word_at a.elements.members i))));
 }
 
 pub ensured-then : (a b c : Holding) (i : ℕ) → IsAdmissible (integer_matrix a.elements.matrix)
+    → IsClosed (integer_matrix a.elements.matrix) a.elements.members
     → IsEnsured (word_at a.elements.members i) a b → c.elements ≡ b.elements → c.limit ≡ b.limit
     → ((j : ℕ) → HasRow b j → HasRow c j) → ((j : ℕ) → j ≢ i → HasRow c j → HasRow b j) → i < length a.elements.members
-    → AreRowsCounted b c → (HasRow b i → c.steps ≡ b.steps) → IsEnsured (word_at a.elements.members i) a c
-ensured-then a b c i g h elements limit kept others within counted again = ensured-trans (word_at a.elements.members i) a b c h
+    → HasNeeds a.elements (HasRow b) i → AreRowsCounted b c → (HasRow b i → c.steps ≡ b.steps)
+    → IsEnsured (word_at a.elements.members i) a c
+ensured-then a b c i g closed h elements limit kept others within needs counted again =
+    ensured-trans (word_at a.elements.members i) a b c h
     (subst (λ (e : Elements). IsEnsured (word_at e.members i) b c) h.elements
-    (ensured-made b c i (rw h.elements g) elements limit kept others (rw h.elements within) counted again))
+    (ensured-made b c i (rw h.elements g) (rw h.elements closed) elements limit kept others (rw h.elements within) (rw h.elements needs)
+    counted again))
+
+-- where the row of w is held in the end, all rows of Need(w) are, if those that were held before had all of their own Need beside them
+pub ensured-all : (a b : Holding) (i : ℕ) → IsEnsured (word_at a.elements.members i) a b → HasRow b i
+    → IsNeedClosed a (word_at a.elements.members i) → HoldsNeed b (word_at a.elements.members i)
+ensured-all a b i h there was = subst (λ (e : Elements). HoldsNeed b (word_at e.members i)) h.elements
+    (h.closed was i (rw h.elements (itself record { equal = λ s t l k. refl })) there)
 
 -- ---- faults
 

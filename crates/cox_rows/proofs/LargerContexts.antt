@@ -1,6 +1,5 @@
 -- Rows and settled members in a larger context; and a context that has w already is its union with the interval of w.
-use Rattle.std.proofs.Common.{◌≡◌, inr, ⊎_elim, ℕ, List, Option, None, Some, ◌↔◌, ℤ}
-use Rattle.std.proofs.Common.{arith}
+use Rattle.std.proofs.Common.{◌≡◌, inr, ⊎_elim, ℕ, ◌<◌, List, ◌∷◌, length, Option, None, Some, ◌↔◌, ◌∙◌, ℤ, arith}
 use Rattle.std.specs.Prelude.{Contains, IfSome}
 use Rattle.cox_base.specs.IntegerMatrix.{IntegerMatrix, integer_matrix}
 use Rattle.cox_base.specs.Admissible.{IsAdmissible}
@@ -8,17 +7,21 @@ use Rattle.cox_base.specs.Bruhat.{IsBelow}
 use Rattle.cox_base.specs.ShortLex.{normal_form}
 use Rattle.cox_reflect.proofs.Elements.{same-refl, same-sym}
 use Rattle.cox_reflect.proofs.Search.{normal_form-same}
-use Rattle.cox_reflect.proofs.Bruhat.{below-same}
+use Rattle.cox_reflect.proofs.Bruhat.{below-same, below-refl, below-trans, below-descent}
+use Rattle.cox_hecke.specs.Needs.{IsNeeded, itself, shorter, corrected}
+use Rattle.cox_hecke.proofs.Descended.{mu-below}
 use Rattle.cox_context.specs.Closed.{IsClosed, Elements}
 use Rattle.cox_context.specs.Union.{IsInUnion}
 use Rattle.cox_context.specs.Spread.{AreKept}
 use Rattle.cox_context.specs.Numbers.{word_at}
 use Rattle.cox_context.specs.Numbering.{IsNumberOf}
-use Rattle.cox_context.proofs.PlacedWords.{contains-at}
+use Rattle.cox_context.proofs.PlacedWords.{contains-at, contains-placed}
+use Rattle.cox_context.proofs.Shifting.{member-below, element-at}
 use Rattle.cox_row.specs.declared.row.Row.{Row}
 use Rattle.cox_row.specs.RowLists.{row_at}
 use Rattle.cox_row.proofs.GrownRows.{row-grown}
-use Rattle.cox_rows.specs.Holding.{IsHeldRow, AreRows}
+use Rattle.cox_rows.specs.Holding.{Holding, HasRow, IsHeldRow, AreRows}
+use Rattle.cox_rows.specs.Ensured.{IsNeedClosed}
 
 -- ---- rows
 
@@ -38,6 +41,39 @@ module _ (old new : Elements) (g : IsAdmissible (integer_matrix old.matrix)) (fr
 
   pub rows-kept : (limit : ℤ) (rows : List (Option Row)) → AreRows old limit rows → AreRows new limit rows
   rows-kept limit rows h = record { least = h.least; each = λ i. some-kept limit i (row_at rows i) (h.each i) }
+
+-- ---- rows beside those that they need
+
+module _ (A : IntegerMatrix) (g : IsAdmissible A) where
+  -- what the row of w needs is below w
+  needed-below : (w z : List ℕ) → IsNeeded A w z → IsBelow A z w
+  needed-below w z (itself e) = below-refl A g e
+  needed-below w v (shorter {z = z} {s = s} n d e) =
+      below-trans A g (below-same A g (same-sym A g e) (same-refl A g z) (below-descent A g z s d.descent)) (needed-below w z n)
+  needed-below w v (corrected {z = z} {s = s} {m = m} n d c) =
+      below-trans A g (mu-below A g v (s ∷ z) m c.is_mu c.some) (below-trans A g (below-descent A g z s d.descent) (needed-below w z n))
+
+-- where each row of Need(w) that is held has its own Need beside it, it is so in the larger context
+module _ (old new : Holding) (g : IsAdmissible (integer_matrix old.elements.matrix))
+    (from : IsClosed (integer_matrix old.elements.matrix) old.elements.members)
+    (to : IsClosed (integer_matrix old.elements.matrix) new.elements.members) (same : new.elements.matrix ≡ old.elements.matrix)
+    (are : AreKept old.elements.members new.elements.members) (holds : new.holds ≡ old.holds)
+    (members : (i : ℕ) → HasRow old i → i < length old.elements.members) where
+  pub closed-kept : (w : List ℕ) → IsNeedClosed old w → IsNeedClosed new w
+  closed-kept w was k needed there j l n =
+      let A = integer_matrix old.elements.matrix
+      in let held : HasRow old k = rw holds at there
+      in let inside = members k held
+      in let of_k : IsNeeded A w (word_at old.elements.members k) = rw (same, are.word k inside) at needed
+      in let of_j : IsNeeded A (word_at old.elements.members k) (word_at new.elements.members j) = rw (same, are.word k inside) at n
+      in let p = contains-placed old.elements.members (normal_form A (word_at new.elements.members j))
+      (member-below A g old.elements.members from (word_at new.elements.members j) k inside
+      (needed-below A g (word_at old.elements.members k) (word_at new.elements.members j) of_j))
+      in let word : word_at old.elements.members p.i ≡ word_at new.elements.members j
+      = p.is ∙ (element-at A g new.elements.members to j l).normal
+      in let place : p.i ≡ j = to.distinct p.i j (omega (arith, p.within, are.size)) l (are.word p.i p.within ∙ word)
+      in let found : HasRow old p.i = was k of_k held p.i p.within (rw word of_j)
+      in rw (holds, ← place) found
 
 -- ---- nothing new
 

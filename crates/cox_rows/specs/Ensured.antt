@@ -12,17 +12,27 @@ use Rattle.cox_rows.specs.Beyond.{NeedsBeyond}
 use Rattle.cox_rows.specs.CountedRows.{AreRowsCounted}
 use Rattle.cox_rows.specs.Holding.{Holding, HasRow}
 
--- the context and the limit stay, what is held stays, and what is new is needed by w; what is added up is counted, and nothing is where all
--- that w needs is held
+-- all rows of Need(w) are held
+abbrev pub HoldsNeed : Holding → List ℕ → Type 0
+HoldsNeed h w = (j : ℕ) → j < length h.elements.members
+    → IsNeeded (integer_matrix h.elements.matrix) w (word_at h.elements.members j) → HasRow h j
+
+-- each row of Need(w) that is held has all rows of its own Need beside it; so it is where no row is held
+abbrev pub IsNeedClosed : Holding → List ℕ → Type 0
+IsNeedClosed h w = (i : ℕ) → IsNeeded (integer_matrix h.elements.matrix) w (word_at h.elements.members i) → HasRow h i
+    → HoldsNeed h (word_at h.elements.members i)
+
+-- the context and the limit stay, what is held stays, and what is new is needed by w; where each row of Need(w) that was held had its own
+-- Need beside it, each that is held now has it; what is added up is counted, and nothing is where all that w needs is held
 pub record IsEnsured (w : List ℕ) (old new : Holding) : Type 0 where
   pub elements : new.elements ≡ old.elements
   pub limit : new.limit ≡ old.limit
   pub kept : (j : ℕ) → HasRow old j → HasRow new j
   pub needed : (j : ℕ) → HasRow new j
       → HasRow old j ⊎ IsNeeded (integer_matrix old.elements.matrix) w (word_at old.elements.members j)
+  pub closed : IsNeedClosed old w → IsNeedClosed new w
   pub counted : AreRowsCounted old new
-  pub again : ((j : ℕ) → j < length old.elements.members
-      → IsNeeded (integer_matrix old.elements.matrix) w (word_at old.elements.members j) → HasRow old j) → new.steps ≡ old.steps
+  pub again : HoldsNeed old w → new.steps ≡ old.steps
 
 -- Need(w) has no row beyond the limits but, maybe, that of w itself
 pub record AreNeedsSmall (A : IntegerMatrix) (limit : ℤ) (w : List ℕ) : Type 0 where

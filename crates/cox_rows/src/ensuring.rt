@@ -22,7 +22,7 @@ ghost use Rattle.cox_rows.specs.Beyond.{NeedsBeyond};
 ghost use Rattle.cox_rows.specs.CountedRows.{AreRowsCounted};
 ghost use Rattle.cox_rows.specs.Holding.{HasRow, held};
 ghost use Rattle.cox_rows.specs.RowsFaults.{IsRowsFault, IsFaultOfSome};
-ghost use Rattle.cox_rows.specs.Ensured.{IsEnsured, IsSettled, AreNeedsSmall};
+ghost use Rattle.cox_rows.specs.Ensured.{HoldsNeed, IsNeedClosed, IsEnsured, IsSettled, AreNeedsSmall};
 
 use crate::Rows;
 use crate::flags::set_at;
@@ -32,8 +32,11 @@ use cox_row::Row;
 use std::alloc::{AllocError, Global};
 
 impl Rows {
-    /// Makes the row of the member z with the number i, if it is not there, and no rows that are not of Need(z). Where all of Need(z) are
-    /// there, nothing is added up.
+    /// Makes the rows of Need(z) that are not there, for the member z with the number i, and no others. Where all are there, nothing is
+    /// added up.
+    ///
+    /// All of Need(z) is held then, if each of its rows that was held before had all rows of its own Need beside it (clause `all`). That is
+    /// so where no row is held; `ensure`, `begin` and `extend` keep it, after a fault too; only `take` and `adopt` end it.
     ///
     /// `Coefficient` or `Mu` where the row of an element of Need(z) is beyond a limit; what was made before that is held. In A 2, with all
     /// six elements as members, the rows that `121` needs are those of `121`, `21`, `1` and the identity.
@@ -41,6 +44,8 @@ impl Rows {
         requires { i < length self.old.elements.members }
         ensures rows { IsEnsured (word_at self.old.elements.members i) self.old self.new }
         ensures there { OnOk result (HasRow self.new i) }
+        ensures all { OnOk result (IsNeedClosed self.old (word_at self.old.elements.members i)
+            → HoldsNeed self.new (word_at self.old.elements.members i)) }
         ensures small { OnOk result (¬ NeedsBeyond (integer_matrix self.old.elements.matrix) self.old.limit
             (word_at self.old.elements.members i)) }
         ensures fault { IfErr result (IsRowsFault self.old.elements self.old.limit

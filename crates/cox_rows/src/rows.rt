@@ -15,6 +15,7 @@ ghost use Rattle.cox_context.specs.Closed.{IsClosed};
 ghost use Rattle.cox_context.specs.Numbers.{word_at};
 ghost use Rattle.cox_context.specs.Numbering.{IsNumberOf};
 ghost use Rattle.cox_row.specs.RowLists.{row_at};
+ghost use Rattle.cox_rows.specs.Ensured.{IsNeedClosed};
 ghost use Rattle.cox_rows.specs.Holding.{Holding, HasRow, IsHeldRow, held};
 ghost use Rattle.cox_context.specs.Spread.{AreKept};
 ghost use Rattle.cox_klstep.specs.TablesOf.{AreTables, AreEarlierTables};
@@ -194,6 +195,7 @@ impl Rows {
         ensures number { IfOk result (λ i. IsNumberOf self.new.elements.members (normal_form (integer_matrix group.now) w.now.items)
             (Some i)) }
         ensures holds { self.new.holds ≡ self.old.holds }
+        ensures closed { (v : List ℕ) → IsNeedClosed self.old v → IsNeedClosed self.new v }
         ensures unchanged { OnErr result (self.new ≡ self.old) }
         ensures steps { self.new.steps ≡ self.old.steps }
     {

@@ -31,8 +31,8 @@ ensure_lower-returns-then-i-eq0-clause-rows t c = ensured-refl _ c.args.self.now
 pub ensure_until-returns-in_err-make-clause-rows : goal.ensure_until-returns-in_err-make-clause-rows
 ensure_until-returns-in_err-make-clause-rows t c =
     ensured-then c.args.self.now c.ensure_lower.new.self c.make.new.self c.args.i c.context-context.ensures.admissible
-    c.ensure_lower.ensures.rows c.make.ensures.elements c.make.ensures.limit c.make.ensures.kept c.make.ensures.others c.requires
-    c.make.ensures.rows c.make.ensures.again
+    c.context-context.ensures.closed c.ensure_lower.ensures.rows c.make.ensures.elements c.make.ensures.limit c.make.ensures.kept
+    c.make.ensures.others c.requires (c.in_ok-ensure_lower.ensures.there c.if-not-branch.false) c.make.ensures.rows c.make.ensures.again
 
 pub ensure_until-returns-in_err-make-clause-fault : goal.ensure_until-returns-in_err-make-clause-fault
 ensure_until-returns-in_err-make-clause-fault t c =
@@ -45,14 +45,14 @@ ensure_until-returns-in_err-make-clause-fault t c =
 pub ensure_until-returns-in_err-settle-clause-rows : goal.ensure_until-returns-in_err-settle-clause-rows
 ensure_until-returns-in_err-settle-clause-rows t c = rw c.settle.ensures.same
     (ensured-then c.args.self.now c.ensure_lower.new.self c.make.new.self c.args.i c.context-context.ensures.admissible
-    c.ensure_lower.ensures.rows c.make.ensures.elements c.make.ensures.limit c.make.ensures.kept c.make.ensures.others c.requires
-    c.make.ensures.rows c.make.ensures.again)
+    c.context-context.ensures.closed c.ensure_lower.ensures.rows c.make.ensures.elements c.make.ensures.limit c.make.ensures.kept
+    c.make.ensures.others c.requires (c.in_ok-ensure_lower.ensures.there c.if-not-branch.false) c.make.ensures.rows c.make.ensures.again)
 
 pub ensure_until-returns-clause-rows : goal.ensure_until-returns-clause-rows
 ensure_until-returns-clause-rows t c = rw c.settle.ensures.same
     (ensured-then c.args.self.now c.ensure_lower.new.self c.make.new.self c.args.i c.context-context.ensures.admissible
-    c.ensure_lower.ensures.rows c.make.ensures.elements c.make.ensures.limit c.make.ensures.kept c.make.ensures.others c.requires
-    c.make.ensures.rows c.make.ensures.again)
+    c.context-context.ensures.closed c.ensure_lower.ensures.rows c.make.ensures.elements c.make.ensures.limit c.make.ensures.kept
+    c.make.ensures.others c.requires (c.in_ok-ensure_lower.ensures.there c.if-not-branch.false) c.make.ensures.rows c.make.ensures.again)
 
 pub ensure_until-returns-in_err-settle-clause-fault : goal.ensure_until-returns-in_err-settle-clause-fault
 ensure_until-returns-in_err-settle-clause-fault t c =
