@@ -209,7 +209,7 @@ def follow(files, starts, left=frozenset()):
 
 # ---- one command
 
-# The laws, of which `commands` has a clause for each command but `work`, which is a case of `inquiries` alone.
+# The laws, of which `commands` has a clause for each command.
 LAWS = "cox_shell/src/laws.rt"
 REPLIES = "Rattle.cox_replies.specs."
 GRAMMAR = "Rattle.cox_command.specs."
@@ -251,14 +251,11 @@ def sentence(files, name):
         before, _, behind = text.partition("IsAnswered")
         if f'codes "{name}"' in behind:
             answer = arguments(behind)[-1]
-            return text.strip().splitlines(), [(here, answer + "integer_matrix")], [(here, before + "IsAnswered" + behind)]
-    asked = [it for path, it in files.items() if path.startswith(REPLIES) and f"{name}_question" in it.items]
-    if not asked:
-        sys.exit(f"{LAWS} has no clause for {name}")
-    item = asked[0].items[f"{name}_question"]
-    before, _, behind = item.text().partition("=")[2].partition(" asks ")
-    law = head_of(LAWS, "inquiries")
-    return item.lines, [(asked[0], before + arguments(behind)[-1]), (here, "integer_matrix")], [law, (asked[0], behind)]
+            # What the names stand for that the answer has from before it.
+            for let, value in reversed(re.findall(r"\blet (\w+) = (.*?) in\b", before, re.S)):
+                answer += value + " " if re.search(rf"\b{let}\b", answer) else ""
+            return text.strip().splitlines(), [(here, answer)], [(here, before + "IsAnswered" + behind)]
+    sys.exit(f"{LAWS} has no clause for {name}")
 
 
 def of_command(files, name):

@@ -1,11 +1,13 @@
 -- What a line is answered whose tokens give a command on elements.
-use Rattle.std.proofs.Common.{◌≡◌, inl, inr, ℕ, List, [], ◌∷◌, length, Option, Some, None, MatchOption, IsSomeAnd, refl, ap, subst}
+use Rattle.std.proofs.Common.{◌≡◌, inl, inr, ℕ, true, List, [], ◌∷◌, length, Option, Some, None, MatchOption, IsSomeAnd, refl, ap, subst}
 use Rattle.std.proofs.lemmas.Bool.{le-ltb}
 use Rattle.cox_base.specs.declared.limits.TheConstants.{MAX_LETTERS}
 use Rattle.cox_base.specs.Matrix.{CoxeterMatrix}
 use Rattle.cox_base.specs.IntegerMatrix.{IntegerMatrix, integer_matrix}
 use Rattle.cox_base.specs.WordText.{pieces_of}
 use Rattle.cox_tokens.specs.Tokens.{tokens_of}
+use Rattle.cox_tokens.specs.Number.{is_number_in, value_of}
+use Rattle.cox_command.specs.declared.limits.TheConstants.{MAX_START, MAX_COUNT}
 use Rattle.cox_command.specs.CommandWord.{command_word_of}
 use Rattle.cox_command.specs.LineRefusal.{command_refusal, line_refusal}
 use Rattle.cox_command.specs.CommandReading.{command_by, command_of}
@@ -26,7 +28,7 @@ use Rattle.cox_replies.specs.Limits.{Limits}
 use Rattle.cox_replies.specs.Question.{Question, IsRefused}
 use Rattle.cox_replies.specs.RowReply.{RefusesRow}
 use Rattle.cox_replies.specs.GroupReply.{group_question}
-use Rattle.cox_replies.specs.WorkReply.{RefusesWork, generated_words}
+use Rattle.cox_replies.specs.WorkReply.{RefusesWork, generated_words, work_question}
 use Rattle.cox_replies.specs.InquiryQuestion.{one_question, two_question, question_of}
 use Rattle.cox_shell.specs.Reply.{State, Reply, rank_of, refusal}
 use Rattle.cox_shell.specs.CommandReply.{IsDecided, Answers, IsInquiryReply}
@@ -173,4 +175,21 @@ module _ (state : State) (g : CoxeterMatrix) (set : state.group ≡ Some g) (nam
 
       given : (o : Option CommandWord) → o ≡ Some (word.Plain kind)
           → option_map (λ verb. command_by verb [] (Some g.rank)) o ≡ Some (Ask (Plain kind))
+      given o named = rw named refl
+
+  pub work-answered : (start count : List ℕ) → command_word_of name ≡ Some word.Work
+      → is_number_in 0 MAX_START start ≡ true → is_number_in 1 MAX_COUNT count ≡ true
+      → (let question = work_question (value_of start) (value_of count) state.limits (integer_matrix g) in
+      IsAnswered state (name ∷ start ∷ count ∷ []) (question.Refuses LargeInterval) (question.Refuses FarApart) (question.Refuses LargeRow)
+      question.IsText)
+  work-answered start count named first second =
+      inquiry-answered state g (name ∷ start ∷ count ∷ []) (Work (value_of start) (value_of count)) set
+      (accepted (command_word_of name) named) (given (command_word_of name) named)
+    where
+      accepted : (o : Option CommandWord) → o ≡ Some word.Work → command_refusal o (start ∷ count ∷ []) (Some g.rank) ≡ None
+      accepted o named = rw (named, first, second) refl
+
+      given : (o : Option CommandWord) → o ≡ Some word.Work
+          → option_map (λ verb. command_by verb (start ∷ count ∷ []) (Some g.rank)) o
+          ≡ Some (Ask (Work (value_of start) (value_of count)))
       given o named = rw named refl

@@ -26,6 +26,8 @@ ghost use Rattle.cox_hecke.specs.Sums.{sum_over};
 ghost use Rattle.cox_outside.specs.declared.limits.TheConstants.{INPUT_LIMIT};
 ghost use Rattle.cox_outside.specs.Supply.{Supply};
 ghost use Rattle.cox_outside.specs.Outlet.{Outlet, IsPrefix};
+ghost use Rattle.cox_tokens.specs.Number.{is_number_in, value_of};
+ghost use Rattle.cox_command.specs.declared.limits.TheConstants.{MAX_START, MAX_COUNT};
 ghost use Rattle.cox_command.specs.LineRefusal.{line_refusal};
 ghost use Rattle.cox_command.specs.CommandReading.{command_of};
 ghost use Rattle.cox_command.specs.declared.command.Command.TheVariants.{Ask};
@@ -46,6 +48,7 @@ ghost use Rattle.cox_replies.specs.InquiryQuestion.{question_of};
 ghost use Rattle.cox_replies.specs.CertReply.{IsCertText};
 ghost use Rattle.cox_replies.specs.ModuleReply.{IsModuleText};
 ghost use Rattle.cox_replies.specs.GroupReply.{IsGraphText};
+ghost use Rattle.cox_replies.specs.WorkReply.{generated_words, RefusesWork, IsWorkText};
 ghost use Rattle.cox_shell.specs.Reply.{Kept, OpenList, State, Reply, texts};
 ghost use Rattle.cox_shell.specs.OpenLists.{kept_lines};
 ghost use Rattle.cox_shell.specs.Blocks.{AreKeptReplies};
@@ -137,7 +140,7 @@ pub fn inquiries()
 /// more x <= v, or more elements of the group, than the limit (for `cert` also where there are more x <= v than a check takes, and for
 /// commands on the whole group also where an element has more letters than a word may have); else by 34 exactly where elements are too far
 /// apart for R, or for a check; else by 32 exactly where a row that is needed is beyond the limits. Else it is answered the text that
-/// stands last.
+/// stands last. `work` is refused as the first of its generated words that is refused.
 pub fn commands()
     ensures compute { (state : State) (g : CoxeterMatrix) (w v : List ℕ) → state.group ≡ Some g → ReadsAs g w v
         → (let A = integer_matrix g in IsAnswered state (codes "compute" ∷ w ∷ [])
@@ -232,6 +235,12 @@ pub fn commands()
         → (let A = integer_matrix g in let large = IsTooLarge (IsElement A) state.limits.context in IsAnswered state (codes "lrcells" ∷ [])
         large ⊥ ((large → ⊥) × (x : List ℕ) × IsElement A x × IsBeyond A (pos state.limits.coefficient) x)
         (λ text. (cells : List (List (List ℕ))) × AreCells TwoSidedCells A cells × (text ≡ list_text (map (members_text g.rank) cells)))) }
+    ensures work { (state : State) (g : CoxeterMatrix) (start count : List ℕ) → state.group ≡ Some g
+        → is_number_in 0 MAX_START start ≡ true → is_number_in 1 MAX_COUNT count ≡ true
+        → (let A = integer_matrix g in let words = generated_words g.rank (value_of count) (value_of start) in
+        let refuses = RefusesWork state.limits A words in IsAnswered state (codes "work" ∷ start ∷ count ∷ [])
+        (refuses LargeInterval) (refuses FarApart) (refuses LargeRow)
+        (IsWorkText A words)) }
 {}
 
 /// Statuses that compare as equal are equal.

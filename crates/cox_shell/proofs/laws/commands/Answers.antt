@@ -5,7 +5,7 @@ use Rattle.cox_command.specs.declared.inquiry.TwoWord.TheVariants as two
 use Rattle.cox_command.specs.declared.inquiry.RowKind.TheVariants as row
 use Rattle.cox_command.specs.declared.inquiry.EntryKind.TheVariants as entry
 use Rattle.cox_command.specs.declared.inquiry.NoWord.TheVariants as whole
-use Rattle.cox_shell.proofs.AnsweredLines.{one-answered, two-answered, group-answered}
+use Rattle.cox_shell.proofs.AnsweredLines.{one-answered, two-answered, group-answered, work-answered}
 use Rattle.cox_shell.proofs.laws.commands.Goals as goal
 
 pub returns-clause-compute : goal.returns-clause-compute
@@ -76,3 +76,6 @@ returns-clause-rcells c state g set = group-answered state g set (codes "rcells"
 
 pub returns-clause-lrcells : goal.returns-clause-lrcells
 returns-clause-lrcells c state g set = group-answered state g set (codes "lrcells") whole.Lrcells refl
+
+pub returns-clause-work : goal.returns-clause-work
+returns-clause-work c state g start count set first second = work-answered state g set (codes "work") start count refl first second
