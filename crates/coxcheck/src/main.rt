@@ -73,17 +73,22 @@ fn exit_code(status: CheckStatus) -> ExitCode
     ExitCode::from(status.code())
 }
 
-/// Checks with the arguments that were collected, and gives the status out. No contract tells which arguments an environment has, so this
-/// one speaks of a check with some words behind the name.
+/// Checks with the arguments that were collected, and gives the status out. What the check is, each of the cases says, as `start` does; no
+/// contract tells which arguments an environment has.
 fn ended<S: Source, K: Sink>(
     alloc: Global,
     collected: Result<Option<Vec<String>>, AllocError>,
     source: &mut S,
     sink: &mut K,
 ) -> ExitCode
-    ensures { (status : CheckStatus) × (exit_status result ≡ check_code_of status) × (words : List (List ℕ))
-        × IsCheck status words (S.seen source.old) (S.seen source.new) (K.seen sink.old) (K.seen sink.new)
-        × (words ≢ [] → source.new ≡ source.old) }
+    ensures { (status : CheckStatus) × (exit_status result ≡ check_code_of status)
+        × IfOk collected (λ found. IfSome found (λ arguments. IsCheck status (drop 1 (map string_bytes arguments.items))
+        (S.seen source.old) (S.seen source.new) (K.seen sink.old) (K.seen sink.new)))
+        × IfOk collected (λ found. IfSome found (λ arguments. drop 1 (map string_bytes arguments.items) ≢ [] → source.new ≡ source.old))
+        × IfOk collected (λ found. IfNone found ((words : List (List ℕ)) → words ≢ []
+        → IsCheck status words (S.seen source.old) (S.seen source.new) (K.seen sink.old) (K.seen sink.new)))
+        × IfOk collected (λ found. IfNone found (source.new ≡ source.old))
+        × IfErr collected (λ _. (status ≡ CheckStatus.NoMemory) × (source.new ≡ source.old) × (sink.new ≡ sink.old)) }
 {
     exit_code(start(alloc, collected, source, sink))
 }

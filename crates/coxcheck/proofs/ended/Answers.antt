@@ -2,4 +2,12 @@
 use Rattle.coxcheck.proofs.ended.Goals as goal
 
 pub returns : goal.returns
-returns g c = let check = c.start.ensures.check in (c.start.result, c.exit_code.ensures, check.0, check.1, check.2)
+returns g c = let check = c.start.ensures in (
+  c.start.result,
+  c.exit_code.ensures,
+  check.texts,
+  check.unread,
+  check.no_texts,
+  check.no_texts_unread,
+  check.none,
+)
