@@ -93,9 +93,11 @@ fn start<R: Threads + Wait + Sync, S: Source, K: Sink, G: Gate + Sync>(
         × IsRun result arguments (S.seen source.old) (S.seen source.new) (K.seen sink.old) (K.seen sink.new)
         × IsReadBy result arguments (S.seen source.old) (S.seen source.new) }
     ensures texts { IfOk found (λ some. IfSome some (λ arguments. IsRun result (map string_bytes arguments.items)
-        (S.seen source.old) (S.seen source.new) (K.seen sink.old) (K.seen sink.new))) }
+        (S.seen source.old) (S.seen source.new) (K.seen sink.old) (K.seen sink.new)
+        × IsReadBy result (map string_bytes arguments.items) (S.seen source.old) (S.seen source.new))) }
     ensures no_texts { IfOk found (λ some. IfNone some ((arguments : List (List ℕ)) × IsUsage arguments
-        × IsRun result arguments (S.seen source.old) (S.seen source.new) (K.seen sink.old) (K.seen sink.new))) }
+        × IsRun result arguments (S.seen source.old) (S.seen source.new) (K.seen sink.old) (K.seen sink.new)
+        × IsReadBy result arguments (S.seen source.old) (S.seen source.new))) }
     ensures none { IfErr found (λ _. (result ≡ NoMemory) × (source.new ≡ source.old) × (sink.new ≡ sink.old)) }
 {
     match found {
