@@ -1,4 +1,6 @@
 //! Whole runs with several workers: they write the same bytes, they work at once, and they make no row twice.
+ghost use Rattle.std.specs.Prelude.{◌≡◌, true};
+
 use crate::runs::{assert_end, end_of};
 use cox_doubles::{Census, MemorySink, Trial};
 use cox_outside::{Gate, Open};
@@ -81,6 +83,11 @@ struct Counts {
     published: (usize, usize),
     claimed: usize,
 }
+
+/// Counts that `==` tells to be equal are the same.
+pub fn equal_counts()
+    ensures { (a b : Counts) → ⟦<Counts as PartialEq>⟧.eq a b ≡ true → a ≡ b }
+{}
 
 /// What a gate counts in a run by so many workers, where so many are awaited, for so many rows; `None` where the run does not write what
 /// one worker writes.

@@ -1,7 +1,9 @@
 //! Tests of contexts, of rows in them, and of the workers that make rows. There is no code here, only tests.
 //!
-//! They stand apart from the crates that they test, since a crate with tests is proved twice.
+//! They stand apart from the crates that they test, since a crate with tests is proved twice. A law says that values which they compare are
+//! the same where `==` tells them to be equal. So no assertion passes by a `==` that is always true.
 //!
+//! - `laws`: what `==` tells of the values that tests compare
 //! - `fixtures`: groups with all their elements, and the rows of these
 //! - `contexts`: pairs of elements in Bruhat order against published numbers
 //! - `rows`: rows that are settled, rows that are read off those of images, a context that grows, and a long element
@@ -17,5 +19,6 @@ mod fill_core;
 mod fixtures;
 #[cfg(test)]
 mod given_up;
+pub mod laws;
 #[cfg(test)]
 mod rows;

@@ -189,7 +189,7 @@ fn limits(rt: HostRuntime) -> Result<(), Fail> {
     let calls = Calls::none();
     let mut source = StdSource::new(Stream::new(&calls, 7, 5));
     let mut reader = LineReader::new(rt.alloc())?;
-    assert_eq!(rt; reader.next(&mut source), Next::Line(b"aaaaa"));
+    assert!(rt; matches!(reader.next(&mut source), Next::Line(b"aaaaa")));
     assert_eq!(rt; calls.made.load(SeqCst), 2);
     assert_eq!(rt; calls.size.load(SeqCst), 4096);
     Ok(())

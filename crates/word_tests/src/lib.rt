@@ -1,6 +1,8 @@
 //! Tests of matrices, their symmetries, the text of polynomials, small roots and directed graphs. There is no code here, only tests.
-//! They stand apart from the crates that they test, since a crate with tests is proved twice.
+//! They stand apart from the crates that they test, since a crate with tests is proved twice. A law says that faults which they compare are
+//! the same where `==` tells them to be equal. So no assertion passes by a `==` that is always true.
 //!
+//! - `laws`: what `==` tells of the values that tests compare
 //! - `graphs`: the classes of `cox_scc`
 //! - `matrices`: the matrices of `cox_base`
 //! - `polynomials`: the text of the polynomials of `cox_poly`, also read by `cox_polyread`
@@ -10,6 +12,7 @@
 
 #[cfg(test)]
 mod graphs;
+pub mod laws;
 #[cfg(test)]
 mod matrices;
 #[cfg(test)]
