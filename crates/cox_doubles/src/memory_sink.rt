@@ -63,7 +63,6 @@ impl MemorySink {
 impl Sink for MemorySink {
     ghost seen = { outlet_of };
 
-    #[tactic(auto, using(crate::proofs::Memory::some_passes))]
     /// Fails exactly where the call has to or no room is left; else it takes as many bytes as the
     /// piece, the bytes given and the room allow.
     fn write(&mut self, bytes: &[u8]) -> Took

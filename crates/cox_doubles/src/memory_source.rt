@@ -50,7 +50,7 @@ impl MemorySource {
 impl Source for MemorySource {
     ghost seen = { supply_of };
 
-    #[tactic(auto, using(crate::proofs::Memory::copied_prefix, crate::proofs::Memory::some_passes))]
+    #[tactic(auto, using(crate::proofs::Memory::copied_prefix))]
     /// Fails exactly where the call has to; else it gives as many bytes as the piece, the buffer and
     /// the bytes left allow.
     fn read(&mut self, into: &mut [u8]) -> Got
