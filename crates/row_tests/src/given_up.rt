@@ -5,7 +5,7 @@ ghost use Rattle.cox_row_store.specs.Stores.{elements_of, IsSeat};
 
 use crate::fixtures::elements;
 use cox_context::Context;
-use cox_outside::Open;
+use cox_doubles::Census;
 use cox_row_store::{Claimed, RowState, RowStore, Seat};
 use cox_rows::Rows;
 use cox_workers::{Missing, WorkerContext, WorkerScratch, all_members, fill};
@@ -18,29 +18,33 @@ use std::thread::Threads;
 /// The greatest coefficient.
 const LIMIT: i64 = 2_147_483_647;
 
-/// In A 3 the row of `2132`, the member 18, needs that of `2`, the member 2.
+/// In A 3 the row of `2132`, the member 18, needs that of `2`, the member 2. Workers pass the gate before they claim a row, also one that
+/// they give up, so in the end all 24 are counted.
 #[test]
 fn makes_a_row_that_was_given_up(rt: HostRuntime) -> Result<(), Fail> {
     let alloc = rt.alloc();
     let context = elements(&rt, alloc, b'A', 3, 24)?;
     let (store, mut seat) = RowStore::new(alloc, &context, LIMIT)?;
-    give_up(&rt, alloc, &context, &store, &mut seat)?;
+    let gate = Census::new(alloc, 1, 24)?;
+    give_up(&rt, alloc, &context, &store, &mut seat, &gate)?;
     let all = all_members(alloc, &context)?;
-    let seat = fill(&rt, alloc, &context, &store, seat, all.as_slice(), 2, &Open);
+    let seat = fill(&rt, alloc, &context, &store, seat, all.as_slice(), 2, &gate);
     let made = store.into_rows(&rt, seat);
     let mut rows = Rows::new(alloc, context, LIMIT)?;
     rows.adopt(made);
-    assert!(rt; rows.has(0) && !rows.has(2) && !rows.has(18));
+    assert!(rt; rows.has(0) && !rows.has(2) && !rows.has(18) && gate.claimed() == 24);
     complete(&rt, &mut rows)
 }
 
-/// Gives up the row of `2`. A worker that then wants that of `2132` gives it up too.
+/// Gives up the row of `2`. A worker that then wants that of `2132` gives it up too. It comes to claim the rows of `2132`, `132`, `32` and
+/// `2`, each by the least left descent of the one before, and publishes none.
 fn give_up<R: Abort + Threads + Wait + Sync>(
     rt: &R,
     alloc: Global,
     context: &Context,
     store: &RowStore,
     seat: &mut Seat,
+    gate: &Census,
 ) -> Result<(), Fail>
     requires same { elements_of store.now ≡ context.now }
     requires own { IsSeat store.now seat.old }
@@ -54,11 +58,12 @@ fn give_up<R: Abort + Threads + Wait + Sync>(
     let worker = WorkerContext::new(alloc, context, store, 1);
     let mut scratch = WorkerScratch::new(&worker, seat)?;
     assert_eq!(rt;
-        worker.ensure(rt, &Open, seat, &mut scratch, 18),
+        worker.ensure(rt, gate, seat, &mut scratch, 18),
         Err(Missing::Void(2))
     );
     drop(scratch);
     assert_eq!(rt; store.look(seat, 18), RowState::Void);
+    assert_eq!(rt; (gate.claimed(), gate.published()), (4, (0, 0)));
     Ok(())
 }
 
