@@ -10,7 +10,7 @@ stand on one below it. The tables of other documents have each crate that they a
 that is not there. A limit has the value that its constant has, where a table or a sentence tells
 it. Links lead to files and headings, what is named as a file is one, and a name in backticks stands
 somewhere in the tree. Lines have at most 100 characters, but for tables, blocks of code and links
-that are too long by themselves.
+that are too long by themselves. docs/BENCHMARKS.md has at most 120 lines.
 
 With --write it writes the column of what crates name and the values of limits, fills paragraphs
 that are too wide, and then checks. It prints what is wrong, and a last line with counts; the exit
@@ -26,6 +26,8 @@ import believed
 from common import TOP
 
 WIDTH = 100
+# How many lines docs/BENCHMARKS.md has at most: one table for each script. The rest is in HISTORY.md.
+MOST_BENCHMARKS = 120
 DOCUMENTS = ["README.md", "gap/README.md", "gap/doc/CoxeterShell.md", "python/README.md"]
 DOCUMENTS = [name for name in DOCUMENTS if os.path.exists(os.path.join(TOP, name))]
 DOCUMENTS += sorted(
@@ -439,6 +441,13 @@ def widths(problems, write):
         problems.want(not wide, told)
 
 
+def lengths(problems):
+    """The page of benchmarks is no longer than it may be."""
+    count = len(read("docs", "BENCHMARKS.md").splitlines())
+    told = f"docs/BENCHMARKS.md has {count} lines, more than {MOST_BENCHMARKS}"
+    problems.want(count <= MOST_BENCHMARKS, told)
+
+
 def prose(text):
     """The lines that are neither in blocks of code nor in tables, with their numbers; a line of one
     word alone is left out."""
@@ -510,6 +519,7 @@ def main():
     counts(problems, crates)
     names(problems)
     widths(problems, write)
+    lengths(problems)
     print(
         f"{len(DOCUMENTS)} documents, {problems.looked} things compared, {problems.count} problems"
     )
