@@ -114,8 +114,8 @@ fn exit_code(status: Status) -> ExitCode
     ExitCode::from(status.code())
 }
 
-/// Runs the shell with the arguments that were found, and gives its status out. No contract tells which arguments an environment has, so
-/// this one speaks of a run with some arguments.
+/// Runs the shell with the arguments that were found, and gives its status out. What the run is, each of the cases says, as `start` does; no
+/// contract tells which arguments an environment has.
 fn ended<R: Threads + Wait + Sync, S: Source, K: Sink, G: Gate + Sync>(
     rt: &R,
     alloc: Global,
@@ -124,9 +124,14 @@ fn ended<R: Threads + Wait + Sync, S: Source, K: Sink, G: Gate + Sync>(
     sink: &mut K,
     gate: &G,
 ) -> ExitCode
-    ensures { (status : Status) × (exit_status result ≡ code_of status) × (arguments : List (List ℕ))
+    ensures { (status : Status) × (exit_status result ≡ code_of status)
+        × IfOk found (λ some. IfSome some (λ arguments. IsRun status (map string_bytes arguments.items)
+        (S.seen source.old) (S.seen source.new) (K.seen sink.old) (K.seen sink.new)
+        × IsReadBy status (map string_bytes arguments.items) (S.seen source.old) (S.seen source.new)))
+        × IfOk found (λ some. IfNone some ((arguments : List (List ℕ)) × IsUsage arguments
         × IsRun status arguments (S.seen source.old) (S.seen source.new) (K.seen sink.old) (K.seen sink.new)
-        × IsReadBy status arguments (S.seen source.old) (S.seen source.new) }
+        × IsReadBy status arguments (S.seen source.old) (S.seen source.new)))
+        × IfErr found (λ _. (status ≡ NoMemory) × (source.new ≡ source.old) × (sink.new ≡ sink.old)) }
 {
     exit_code(start(rt, alloc, found, source, sink, gate))
 }

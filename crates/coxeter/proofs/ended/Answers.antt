@@ -2,4 +2,4 @@
 use Rattle.coxeter.proofs.ended.Goals as goal
 
 pub returns : goal.returns
-returns g c = let run = c.start.ensures.run in (c.start.result, c.exit_code.ensures, run.0, run.1, run.2)
+returns g c = let run = c.start.ensures in (c.start.result, c.exit_code.ensures, run.texts, run.no_texts, run.none)
