@@ -57,6 +57,7 @@ fn run_arguments<R: Threads + Wait + Sync, S: Source, K: Sink, G: Gate + Sync>(
     ensures run { IsRun result (map string_bytes arguments.now)
         (S.seen source.old) (S.seen source.new) (K.seen sink.old) (K.seen sink.new) }
     ensures reading { IsReadBy result (map string_bytes arguments.now) (S.seen source.old) (S.seen source.new) }
+    ensures unread { IsUsage (map string_bytes arguments.now) → source.new ≡ source.old }
 {
     match texts(alloc, arguments) {
         Ok(texts) => run(rt, alloc, &texts, source, sink, gate),
@@ -72,9 +73,10 @@ fn refuse<R: Threads + Wait + Sync, S: Source, K: Sink, G: Gate + Sync>(
     sink: &mut K,
     gate: &G,
 ) -> Status
-    ensures { (arguments : List (List ℕ)) × IsUsage arguments
+    ensures run { (arguments : List (List ℕ)) × IsUsage arguments
         × IsRun result arguments (S.seen source.old) (S.seen source.new) (K.seen sink.old) (K.seen sink.new)
         × IsReadBy result arguments (S.seen source.old) (S.seen source.new) }
+    ensures unread { source.new ≡ source.old }
 {
     run(rt, alloc, &wrong_arguments(), source, sink, gate)
 }
@@ -99,6 +101,9 @@ fn start<R: Threads + Wait + Sync, S: Source, K: Sink, G: Gate + Sync>(
         × IsRun result arguments (S.seen source.old) (S.seen source.new) (K.seen sink.old) (K.seen sink.new)
         × IsReadBy result arguments (S.seen source.old) (S.seen source.new))) }
     ensures none { IfErr found (λ _. (result ≡ NoMemory) × (source.new ≡ source.old) × (sink.new ≡ sink.old)) }
+    ensures unread { IfOk found (λ some. IfSome some (λ arguments. IsUsage (map string_bytes arguments.items)
+        → source.new ≡ source.old)) }
+    ensures no_texts_unread { IfOk found (λ some. IfNone some (source.new ≡ source.old)) }
 {
     match found {
         Ok(Some(arguments)) => run_arguments(rt, alloc, &arguments, source, sink, gate),
@@ -131,7 +136,9 @@ fn ended<R: Threads + Wait + Sync, S: Source, K: Sink, G: Gate + Sync>(
         × IfOk found (λ some. IfNone some ((arguments : List (List ℕ)) × IsUsage arguments
         × IsRun status arguments (S.seen source.old) (S.seen source.new) (K.seen sink.old) (K.seen sink.new)
         × IsReadBy status arguments (S.seen source.old) (S.seen source.new)))
-        × IfErr found (λ _. (status ≡ NoMemory) × (source.new ≡ source.old) × (sink.new ≡ sink.old)) }
+        × IfErr found (λ _. (status ≡ NoMemory) × (source.new ≡ source.old) × (sink.new ≡ sink.old))
+        × IfOk found (λ some. IfSome some (λ arguments. IsUsage (map string_bytes arguments.items) → source.new ≡ source.old))
+        × IfOk found (λ some. IfNone some (source.new ≡ source.old)) }
 {
     exit_code(start(rt, alloc, found, source, sink, gate))
 }

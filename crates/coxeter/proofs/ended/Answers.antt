@@ -2,4 +2,12 @@
 use Rattle.coxeter.proofs.ended.Goals as goal
 
 pub returns : goal.returns
-returns g c = let run = c.start.ensures in (c.start.result, c.exit_code.ensures, run.texts, run.no_texts, run.none)
+returns g c = let run = c.start.ensures in (
+  c.start.result,
+  c.exit_code.ensures,
+  run.texts,
+  run.no_texts,
+  run.none,
+  run.unread,
+  run.no_texts_unread,
+)

@@ -17,6 +17,12 @@ returns-in-Ok-clause-reading g c =
     ap argument_texts c.deref.ensures.value ∙ c.in-Ok.ensures in
     rw (← same) c.run.ensures.reading
 
+pub returns-in-Ok-clause-unread : goal.returns-in-Ok-clause-unread
+returns-in-Ok-clause-unread g c =
+    let same : argument_texts c.deref.result.now ≡ map string_bytes c.args.arguments.now =
+    ap argument_texts c.deref.ensures.value ∙ c.in-Ok.ensures in
+    rw (← same) c.run.ensures.unread
+
 pub returns-in-Err-clause-run : goal.returns-in-Err-clause-run
 returns-in-Err-clause-run g c = run-none (map string_bytes c.args.arguments.now) _ _
 
