@@ -18,6 +18,8 @@ use Rattle.cox_replies.specs.Listed.{RefusesLargeOr}
 use Rattle.cox_replies.specs.InverseReply.{inverse_limit}
 use Rattle.cox_answers.specs.Kept.{HoldsElement}
 use Rattle.cox_answers.specs.declared.needs.Ends.{Ends}
+use Rattle.cox_answers.specs.declared.kept_rows.WholeGroup.{WholeGroup}
+use Rattle.cox_answers.specs.declared.kept_rows.WholeGroup.TheVariants.{NotLookedFor, LookedFor}
 
 -- the row of some element between y and w needs a row that is beyond its limits
 abbrev pub IsSomeBeyond : IntegerMatrix → ℕ → List ℕ → List ℕ → Type 0
@@ -50,5 +52,6 @@ pub record IsReadOff (rows : Holding) (w0 : LongestElement) : Type 0 where
       → ¬ IsBeyond (integer_matrix rows.elements.matrix) rows.limit (word_at rows.elements.members i)
 
 -- where a whole group was found, the rows that are kept are such
-abbrev pub AreReadOff : Option Holding → Option (Option LongestElement) → Type 0
-AreReadOff kept whole = IfSome whole (λ found. IfSome found (λ group. IsSomeAnd kept (λ rows. IsReadOff rows group)))
+abbrev pub AreReadOff : Option Holding → WholeGroup → Type 0
+AreReadOff kept NotLookedFor = Unit {0}
+AreReadOff kept (LookedFor found) = IfSome found (λ group. IsSomeAnd kept (λ rows. IsReadOff rows group))

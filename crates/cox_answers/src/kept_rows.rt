@@ -19,8 +19,16 @@ use std::marker::Model;
 #[derive(Drop)]
 pub struct KeptRows {
     rows: Option<Rows>,
-    // What inverse polynomials are read off, if that was looked for since the rows changed.
-    whole: Option<Option<LongestElement>>,
+    whole: WholeGroup,
+}
+
+/// What is known of reading inverse polynomials off the rows that are kept.
+#[derive(Clone, Copy, Drop)]
+pub enum WholeGroup {
+    /// Whether they can be read off was not looked for since the rows changed.
+    NotLookedFor,
+    /// It was looked for: this is what they are read off, if they can be.
+    LookedFor(Option<LongestElement>),
 }
 
 impl Model for KeptRows {
@@ -42,7 +50,7 @@ impl KeptRows {
     {
         KeptRows {
             rows: None,
-            whole: None,
+            whole: WholeGroup::NotLookedFor,
         }
     }
 
@@ -58,7 +66,7 @@ impl KeptRows {
         ensures* lends { sem 𝓛 (LendsRows self.entry result) }
         ensures rows { result.now ≡ self.old }
     {
-        self.whole = None;
+        self.whole = WholeGroup::NotLookedFor;
         &mut self.rows
     }
 
@@ -67,17 +75,17 @@ impl KeptRows {
         ensures { IfSome result (λ group. IsSomeAnd self.now (λ rows. IsReadOff rows group)) }
     {
         match self.whole {
-            Some(found) => found,
-            None => None,
+            WholeGroup::LookedFor(found) => found,
+            WholeGroup::NotLookedFor => None,
         }
     }
 
     /// Whether it was looked for since the rows changed.
     pub fn knows_whole_group(&self) -> bool {
-        self.whole.is_some()
+        matches!(self.whole, WholeGroup::LookedFor(_))
     }
 
-    /// Looks for what inverse polynomials are read off, where the rows of all members are there and it was not looked for. Tells whether
+    /// Looks for what inverse polynomials are read off, if the rows of all members are there and it was not looked for yet. Returns whether
     /// these rows are there.
     pub fn find_whole_group(&mut self) -> bool
         ensures same { self.new ≡ self.old }
@@ -98,8 +106,8 @@ impl KeptRows {
         if !has_all(rows) {
             return false;
         }
-        if self.whole.is_none() {
-            self.whole = Some(find_whole(rows));
+        if !self.knows_whole_group() {
+            self.whole = WholeGroup::LookedFor(find_whole(rows));
         }
         true
     }

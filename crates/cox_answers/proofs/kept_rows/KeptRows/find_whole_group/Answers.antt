@@ -2,12 +2,12 @@
 use Rattle.std.proofs.Common.{◌≡◌, Some, sym, ◌∙◌}
 use Rattle.cox_answers.proofs.kept_rows.KeptRows.find_whole_group.Goals as goal
 
-pub returns-then-is_none-clause-small : goal.returns-then-is_none-clause-small
-returns-then-is_none-clause-small c =
+pub returns-then-not-knows_whole_group-clause-small : goal.returns-then-not-knows_whole_group-clause-small
+returns-then-not-knows_whole_group-clause-small c =
     let is : c.args.self.now ≡ Some c.in-Some.rows = sym c.self.view_is ∙ c.in-Some.is in
     λ done. rw is (c.has_all.ensures.small c.if-not-has_all.false)
 
-pub returns-else-is_none-clause-small : goal.returns-else-is_none-clause-small
-returns-else-is_none-clause-small c =
+pub returns-else-not-knows_whole_group-clause-small : goal.returns-else-not-knows_whole_group-clause-small
+returns-else-not-knows_whole_group-clause-small c =
     let is : c.args.self.now ≡ Some c.in-Some.rows = sym c.self.view_is ∙ c.in-Some.is in
     λ done. rw is (c.has_all.ensures.small c.if-not-has_all.false)
