@@ -9,6 +9,7 @@
 //! - `likeness`: whether two workspaces have the same group and limits
 //! - `finite`: whether a group is seen to be finite
 //! - `faults`: what faults lead to
+//! - `small_roots`: the table of small roots, which workspaces with the same group share
 //! - `whole_group_policy`: when the whole group is taken in the place of interval after interval
 //! - `kept_rows`: the rows that are kept of a group, and what is known of all of them
 //! - `workspace`: what answers work with
@@ -23,6 +24,7 @@ mod kept_rows;
 mod likeness;
 mod needs;
 mod row_maker;
+mod small_roots;
 mod whole_group_policy;
 mod workspace;
 

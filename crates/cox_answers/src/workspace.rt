@@ -9,6 +9,7 @@ use crate::finite::{longest_of_few, longest_word};
 use crate::kept_rows::KeptRows;
 use crate::needs::Ends;
 use crate::row_maker::RowMaker;
+use crate::small_roots::SmallRoots;
 use crate::whole_group_policy::WholeGroupPolicy;
 use cox_base::{Coxeter, MAX_RANK, Word};
 use cox_command::Inquiry;
@@ -25,7 +26,7 @@ use std::marker::Model;
 /// Which rows are kept shows in no answer.
 #[derive(Drop)]
 pub struct Workspace {
-    table: RootTable,
+    roots: SmallRoots,
     options: Options,
     kept: KeptRows,
     policy: WholeGroupPolicy,
@@ -37,9 +38,9 @@ impl Model for Workspace {
 
     ghost Value = { WorkspaceState };
 
-    ghost view = { λ w. record { table = w.table; options = w.options; rows = w.kept } };
+    ghost view = { λ w. record { table = w.roots; options = w.options; rows = w.kept } };
 
-    ghost invariant = { λ w. AreKept w.table (limits_of w.options) w.kept };
+    ghost invariant = { λ w. AreKept w.roots (limits_of w.options) w.kept };
 }
 
 impl Workspace {
@@ -60,12 +61,32 @@ impl Workspace {
     ghost use Rattle.cox_answers.specs.KeptBetween.{RefusesBetween, HoldsEnds, HoldsBetween, IsReadOff};
 
     /// A group with the options of the session; no row is made yet.
-    pub fn new(table: RootTable, options: Options) -> Workspace
-        ensures table { result.table ≡ table }
+    pub fn new(alloc: Global, table: RootTable, options: Options) -> Result<Workspace, AllocError>
+        ensures table { IfOk result (λ work. work.table ≡ table) }
+        ensures options { IfOk result (λ work. work.options ≡ options) }
+    {
+        let roots = SmallRoots::new(alloc, table)?;
+        Ok(Workspace::without_rows(roots, options))
+    }
+
+    /// A workspace with the same group and options, in which no row is made yet. The two share the table of small roots.
+    pub fn fresh(&self) -> Result<Workspace, AllocError>
+        ensures table { IfOk result (λ work. work.table ≡ self.now.table) }
+        ensures options { IfOk result (λ work. work.options ≡ self.now.options) }
+        ensures rows { IfOk result (λ work. work.rows ≡ None) }
+    {
+        let roots = self.roots.share()?;
+        Ok(Workspace::without_rows(roots, self.options))
+    }
+
+    /// The group with these small roots, and the options of the session; no row is made yet.
+    fn without_rows(roots: SmallRoots, options: Options) -> Workspace
+        ensures table { result.table ≡ roots }
         ensures options { result.options ≡ options }
+        ensures rows { result.rows ≡ None }
     {
         Workspace {
-            table,
+            roots,
             options,
             kept: KeptRows::new(),
             policy: WholeGroupPolicy::new(),
@@ -78,14 +99,14 @@ impl Workspace {
         ensures limit { result ≤ MAX_RANK }
         ensures matrix { IsCoxeterMatrix self.now.table }
     {
-        self.table.group().rank()
+        self.table().group().rank()
     }
 
     /// The group.
-    pub fn group(&self) -> &Coxeter
+    pub(crate) fn group(&self) -> &Coxeter
         ensures { result.now ≡ self.now.table }
     {
-        self.table.group()
+        self.table().group()
     }
 
     /// The options of the session.
@@ -99,7 +120,7 @@ impl Workspace {
     pub(crate) fn table(&self) -> &RootTable
         ensures { result.now ≡ self.now.table }
     {
-        &self.table
+        self.roots.table()
     }
 
     /// The rows that are kept.
@@ -188,7 +209,13 @@ impl Workspace {
             return Ok(i);
         }
         self.take_group();
-        keep_interval(alloc, self.kept.change(), &self.table, self.options, w)
+        keep_interval(
+            alloc,
+            self.kept.change(),
+            self.roots.table(),
+            self.options,
+            w,
+        )
     }
 
     /// The number of the element of w, if it is a member.
@@ -200,7 +227,7 @@ impl Workspace {
         ensures kept { AreKept self.now.table (limits_of self.now.options) self.now.rows }
     {
         match self.kept.rows() {
-            Some(rows) => rows.context().number_of(&self.table, w),
+            Some(rows) => rows.context().number_of(self.table(), w),
             None => None,
         }
     }
@@ -311,7 +338,7 @@ impl Workspace {
         ensures group { IsCoxeterMatrix self.old.table }
     {
         prove!(self.rank() as usize <= MAX_RANK);
-        if !is_large(self.rows().context(), ends) || longest_word(&self.table).is_none() {
+        if !is_large(self.rows().context(), ends) || longest_word(self.table()).is_none() {
             return Ok(ends);
         }
         let _ = self.keep_group(maker, alloc);
@@ -331,15 +358,10 @@ impl Workspace {
         let Some(most) = self.policy.next_try(count, self.options.context()) else {
             return;
         };
-        prove!(self.table.group().rank() as usize <= MAX_RANK);
-        if let Some(longest) = longest_of_few(&self.table) {
-            widen(
-                self.kept.change(),
-                &self.table,
-                self.options,
-                &longest,
-                most,
-            );
+        let table = self.roots.table();
+        prove!(table.group().rank() as usize <= MAX_RANK);
+        if let Some(longest) = longest_of_few(table) {
+            widen(self.kept.change(), table, self.options, &longest, most);
         }
     }
 
@@ -357,7 +379,7 @@ impl Workspace {
         ensures group { IsCoxeterMatrix self.old.table }
     {
         let kept = self.kept.change();
-        keep_elements(alloc, kept, &self.table, self.options)?;
+        keep_elements(alloc, kept, self.roots.table(), self.options)?;
         let Some(rows) = kept.take() else {
             unreachable!();
         };
@@ -373,7 +395,13 @@ impl Workspace {
         ensures { IsSameWorkspace self.old self.new }
     {
         self.take_group();
-        add_interval(alloc, self.kept.change(), &self.table, self.options, w)
+        add_interval(
+            alloc,
+            self.kept.change(),
+            self.roots.table(),
+            self.options,
+            w,
+        )
     }
 
     /// Makes the rows of members that the commands ask for. If they ask for inverse polynomials, it looks whether these can be read off.
@@ -391,7 +419,7 @@ impl Workspace {
         let Some(rows) = kept.take() else {
             return;
         };
-        let rows = with_asked(alloc, rows, &self.table, maker, inquiries);
+        let rows = with_asked(alloc, rows, self.roots.table(), maker, inquiries);
         *kept = Some(rows);
         if inquiries.iter().any(|inquiry| is_on_interval(inquiry)) {
             self.kept.find_whole_group();

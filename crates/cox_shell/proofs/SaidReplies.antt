@@ -172,3 +172,10 @@ pub nothing-put : (result : Result Said AllocError) (Is : Reply → Type 0) (rep
     → after ≡ before → OnErr result ((reply : Reply) × Is reply × PutsPrefix reply.text before after)
 nothing-put (Ok said) Is reply before after is same = tt
 nothing-put (Err error) Is reply before after is same = (reply, is, PutsPrefix-none reply.text before after same)
+
+-- nothing was put of a reply to a line, and the state stayed
+pub nothing-said : (result : Result Said AllocError) (Is : Reply → Type 0) (reply : Reply) (state : State) (out : List ℕ) → Is reply
+    → OnErr result ((reply : Reply) × Is reply × SaysPrefix reply state state out out)
+nothing-said (Ok said) Is reply state out is = tt
+nothing-said (Err error) Is reply state out is =
+    (reply, is, record { puts_prefix = PutsPrefix-none reply.text out out refl; same_state = refl })

@@ -1,7 +1,5 @@
 -- The state of a session, by what it works with and the list that is open.
 use Rattle.std.specs.Prelude.{Option, None, Some}
-use Rattle.cox_base.specs.IntegerMatrix.{integer_matrix}
-use Rattle.cox_small.specs.RootCounts.{HasFewSmallRoots}
 use Rattle.cox_replies.specs.SessionLimits.{limits_of}
 use Rattle.cox_shell.specs.declared.session.Stage.{Stage}
 use Rattle.cox_shell.specs.declared.session.Stage.TheVariants.{Opened, Set}
@@ -11,8 +9,3 @@ use Rattle.cox_shell.specs.Reply.{OpenList, State}
 abbrev pub state_of : Stage → Option OpenList → State
 state_of (Opened options) list = record { limits = limits_of options; group = None; list = list }
 state_of (Set work) list = record { limits = limits_of work.options; group = Some work.table; list = list }
-
--- the group has no more small roots than the options admit
-abbrev pub IsStage : Stage → Type 0
-IsStage (Opened options) = Unit {0}
-IsStage (Set work) = HasFewSmallRoots (integer_matrix work.table) (limits_of work.options).roots

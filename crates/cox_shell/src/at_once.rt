@@ -96,7 +96,7 @@ fn answer_in_order<R: Wait, G: Gate>(
     requires { first + length blocks.now < 2 ^ 32 }
     ensures { AnswersListIfOk result session.now blocks.now }
 {
-    let mut own = session.fresh(alloc)?;
+    let mut own = session.fresh()?;
     let maker = SharedRows {
         workspace: session.workspace(),
     };

@@ -16,7 +16,6 @@ use crate::workers::{ByWorkers, make_rows};
 use cox_answers::{OneThread, Workspace};
 use cox_base::MAX_RANK;
 use cox_command::Refusal;
-use cox_minroots::{RootFault, RootTable};
 use cox_options::Options;
 use cox_outside::Gate;
 use cox_rows::Rows;
@@ -83,13 +82,11 @@ pub struct Session {
 
 impl Model for Session {
     ghost use Rattle.cox_shell.specs.Reply.{State};
-    ghost use Rattle.cox_shell.specs.SessionState.{state_of, IsStage};
+    ghost use Rattle.cox_shell.specs.SessionState.{state_of};
 
     ghost Value = { State };
 
     ghost view = { λ s. state_of s.stage s.list };
-
-    ghost invariant = { λ s. IsStage s.stage };
 }
 
 impl Session {
@@ -207,7 +204,7 @@ impl Session {
             × PutsPrefix reply.text out.old.items out.new.items) }
     {
         let _rank = self.rank();
-        let mut own = self.fresh(*out.allocator())?;
+        let mut own = self.fresh()?;
         own.answer_blocks(&OneThread, blocks, out)
     }
 
@@ -241,7 +238,7 @@ impl Session {
                 ensures { IfSome result (λ answered. AnswersList session.now blocks.now answered) }
             { answer_list(rt, gate, workers, session, alloc, blocks) },
         };
-        let mut own = self.fresh(*out.allocator())?;
+        let mut own = self.fresh()?;
         own.answer_blocks(&maker, blocks, out)
     }
 
@@ -292,13 +289,19 @@ impl Session {
         self.answer_content(maker, line, out)
     }
 
-    /// A session of its own in the same state, where no list is open. No row is made in it yet.
-    pub(crate) fn fresh(&self, alloc: Global) -> Result<Session, AllocError>
+    /// A session of its own in the same state, where no list is open. No row is made in it yet. It shares the table of small roots.
+    pub(crate) fn fresh(&self) -> Result<Session, AllocError>
         ensures { IfOk result (λ own. own ≡ closed self.now) }
     {
         match &self.stage {
             Stage::Opened(options) => Ok(Session::new(*options)),
-            Stage::Set(work) => fresh_work(work, alloc),
+            Stage::Set(work) => {
+                let own = work.fresh()?;
+                Ok(Session {
+                    stage: Stage::Set(own),
+                    list: None,
+                })
+            }
         }
     }
 
@@ -330,32 +333,5 @@ impl Session {
             Stage::Opened(options) => *options,
             Stage::Set(work) => work.options(),
         }
-    }
-}
-
-ghost use Rattle.std.specs.Prelude.{◌≡◌, None, Some, IfOk};
-ghost use Rattle.cox_base.specs.IntegerMatrix.{integer_matrix};
-ghost use Rattle.cox_small.specs.RootCounts.{HasFewSmallRoots};
-ghost use Rattle.cox_replies.specs.SessionLimits.{limits_of};
-
-/// A session with the same group and options, where no row is made yet.
-///
-/// Each workspace has a table of small roots of its own, so the table is built again here, once for each thread that answers blocks, and
-/// for each call of `answer_jobs`. That takes longer than hundreds of short lines. So a thread answers all its blocks in one session, and a
-/// list of few short lines starts no thread (`are_worth_threads` in `workers.rt`).
-fn fresh_work(work: &Workspace, alloc: Global) -> Result<Session, AllocError>
-    requires { HasFewSmallRoots (integer_matrix work.now.table) (limits_of work.now.options).roots }
-    ensures { IfOk result (λ own. own ≡ record { limits = limits_of work.now.options; group = Some work.now.table; list = None }) }
-{
-    let group = work.group();
-    let options = work.options();
-    prove!(group.rank() as usize <= MAX_RANK);
-    match RootTable::build(alloc, group, options.roots()) {
-        Ok(table) => Ok(Session {
-            stage: Stage::Set(Workspace::new(table, options)),
-            list: None,
-        }),
-        Err(RootFault::TooMany { .. }) => unreachable!(),
-        Err(RootFault::NoMemory) => Err(AllocError),
     }
 }

@@ -36,11 +36,11 @@ const FEW_POLYNOMIALS: u64 = 131_072;
 /// proportion to the members.
 const FEW_FOR_EACH_MEMBER: u64 = 16;
 
-/// From how many lines on a list is answered by several threads, whatever its lines are. To start a thread, and a session for it, takes as
-/// long as to answer some hundred short lines.
+/// A list of at least this many lines is answered by several threads, whatever its lines are. For fewer short lines it is not worth it to
+/// start threads.
 const MANY_LINES: usize = 256;
 
-/// From how many bytes on a line may take long: it has some twenty letters then.
+/// A line of at least this many bytes may take long: it has some twenty letters.
 const SLOW_LINE: usize = 24;
 
 /// Rows are made, and blocks are answered, by functions that run workers.

@@ -70,7 +70,8 @@ impl Session {
         let options = self.options();
         match RootTable::build(*out.allocator(), group, options.roots()) {
             Ok(table) => {
-                self.stage = Stage::Set(Workspace::new(table, options));
+                let work = Workspace::new(*out.allocator(), table, options)?;
+                self.stage = Stage::Set(work);
                 Ok(Said::Answered)
             }
             Err(RootFault::TooMany { .. }) => self.refuse(Refusal::ManyRoots, out),

@@ -14,7 +14,7 @@ use Rattle.cox_answers.proofs.workspace.Workspace.keep_between.Goals as goal
 pub returns-then-find_whole_group-clause-rows : goal.returns-then-find_whole_group-clause-rows
 returns-then-find_whole_group-clause-rows g c =
     let G = c.args.self.now.table in
-    let table : c.self.inside.table ≡ G = ap (λ (work : WorkspaceState). work.table) c.self.view_is in
+    let table : c.self.inside.roots ≡ G = ap (λ (work : WorkspaceState). work.table) c.self.view_is in
     let options : c.self.inside.options ≡ c.args.self.now.options = ap (λ (work : WorkspaceState). work.options) c.self.view_is in
     let rows : c.self.inside.kept ≡ c.args.self.now.rows = ap (λ (work : WorkspaceState). work.rows) c.self.view_is in
     let found = c.find_whole_group.ensures in
@@ -39,7 +39,7 @@ returns-clause-rows g c =
     let limits = limits_of c.args.self.now.options in
     let y = c.args.y.now.items in
     let w = c.args.w.now.items in
-    let table : c.self.inside.table ≡ G = ap (λ (work : WorkspaceState). work.table) c.self.view_is in
+    let table : c.self.inside.roots ≡ G = ap (λ (work : WorkspaceState). work.table) c.self.view_is in
     let options : c.self.inside.options ≡ c.args.self.now.options = ap (λ (work : WorkspaceState). work.options) c.self.view_is in
     let told = c.in_ok-ends.ensures {u = tt} in
     let ends = c.in_ok-ends.ends in

@@ -11,9 +11,9 @@ pub returns-clause-rows : goal.returns-clause-rows
 returns-clause-rows g c =
     let G = c.args.self.now.table in
     let limits = limits_of c.args.self.now.options in
-    let table : c.self.inside.table ≡ G = ap (λ (work : WorkspaceState). work.table) c.self.view_is in
+    let table : c.self.inside.roots ≡ G = ap (λ (work : WorkspaceState). work.table) c.self.view_is in
     let options : c.self.inside.options ≡ c.args.self.now.options = ap (λ (work : WorkspaceState). work.options) c.self.view_is in
-    let told = rw (table, options) at (c.in_ok-keep_elements.ensures {u = tt}) in
+    let told = rw (c.table.ensures, table, options) at (c.in_ok-keep_elements.ensures {u = tt}) in
     let is = sym c.take.ensures.value ∙ c.in-Some.is in
     let made = c.ensure_all-made.ensures in
     rw c.unless_fault.ensures (group-keeps G limits (IsAdmissible-integer_matrix G told.group) c.in-Some.rows c.with_all-rows.result

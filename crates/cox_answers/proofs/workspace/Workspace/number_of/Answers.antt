@@ -9,8 +9,8 @@ pub returns-in-Some-clause-few : goal.returns-in-Some-clause-few
 returns-in-Some-clause-few c =
     let G = c.args.self.now.table in
     let limits = limits_of c.args.self.now.options in
-    let table : c.self.inside.table ≡ G = ap (λ (work : WorkspaceState). work.table) c.self.view_is in
+    let table : c.self.inside.roots ≡ G = ap (λ (work : WorkspaceState). work.table) c.self.view_is in
     let options : c.self.inside.options ≡ c.args.self.now.options = ap (λ (work : WorkspaceState). work.options) c.self.view_is in
     let of : AreOf G limits c.in-Some.rows = rw (table, options) at (rw (sym c.rows.ensures ∙ c.in-Some.is) at c.self.invariant) in
     found-few limits G (rw of.group at c.context.ensures.admissible) c.args.w.now.items c.in-Some.rows of
-    (rw of.group at c.context.ensures.closed) c.number_of.result (rw (c.context.ensures.context, table) at c.number_of.ensures)
+    (rw of.group at c.context.ensures.closed) c.number_of.result (rw (c.context.ensures.context, c.table.ensures) at c.number_of.ensures)
