@@ -46,8 +46,8 @@ use cox_replies::{
 };
 
 impl Workspace {
-    /// Puts the text that answers a command on elements, or on the whole group, with the end of its last line. A refusal puts nothing;
-    /// where memory runs out a prefix of the text may stand there.
+    /// Puts the text that answers a command on elements, or on the whole group, with the end of its last line. A refusal puts nothing. If
+    /// memory runs out, a prefix of the text may have been put.
     pub fn put_answer<M: RowMaker>(
         &mut self,
         maker: &M,
@@ -67,7 +67,7 @@ impl Workspace {
         Ok(())
     }
 
-    /// Puts that text without the end of its last line: from rows that the maker shares where they give it, else from its own.
+    /// Puts that text without the end of its last line: from rows that the maker shares if they give it, otherwise from its own.
     fn put_text_of<M: RowMaker>(
         &mut self,
         maker: &M,
@@ -85,8 +85,8 @@ impl Workspace {
         }
     }
 
-    /// Puts that text from the rows that a maker shares, where they give it, and are of the same group, within the same limits. `None`, and
-    /// nothing is put, where they do not.
+    /// Puts that text from the rows that a maker shares, if they give it and are of the same group, within the same limits. Otherwise it is
+    /// `None`, and nothing is put.
     fn put_shared<M: RowMaker>(
         &self,
         maker: &M,
@@ -104,7 +104,7 @@ impl Workspace {
         shared.put_kept(out, inquiry)
     }
 
-    /// Puts that text where the rows that are kept give it: no row is made. `None`, and nothing is put, where they do not.
+    /// Puts that text if the rows that are kept give it: no row is made. If they do not, it is `None`, and nothing is put.
     pub fn put_kept(&self, out: &mut Vec<u8>, inquiry: &Inquiry) -> Option<Result<(), Unanswered>>
         requires words { HasLetters self.now.table.rank inquiry.now }
         ensures puts { IfSome result (λ put. Answers put self.now inquiry.now out.old.items out.new.items) }
@@ -114,7 +114,7 @@ impl Workspace {
         Some(self.put(out, inquiry, &found))
     }
 
-    /// Puts that text from rows of its own, which are made where they are not there.
+    /// Puts that text from rows of its own, which are made if they are not there.
     fn put_own<M: RowMaker>(
         &mut self,
         maker: &M,

@@ -14,7 +14,7 @@ const MOST_LETTERS: usize = 49;
 
 /// A word with all letters among its right descents, found by adding letters that are not: the longest element of a finite group.
 ///
-/// It is `None` in each infinite group, and where the longest element has `MAX_LETTERS` letters or more, as in B 16. A caller may not take
+/// It is `None` for every infinite group, and if the longest element has `MAX_LETTERS` letters or more, as in B 16. A caller must not take
 /// `None` for a fact about the group: the contract says nothing of it.
 pub fn longest_word(table: &RootTable) -> Option<Word>
     requires { IsCoxeterMatrix table.now }

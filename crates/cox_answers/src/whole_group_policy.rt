@@ -1,12 +1,12 @@
 //! When the whole group is taken in the place of interval after interval.
 ghost use Rattle.std.specs.Prelude.{◌≤◌, IfSome};
 
-/// With so many members the whole group is tried for the first time. With fewer there is little to save: rows are cheap, and so is each
-/// growth of the context.
+/// How many members there are when the whole group is first tried. With fewer there is little to save: rows are cheap, and so is each growth
+/// of the context.
 const FIRST_TRY: u32 = 4_096;
 
-/// The whole group is taken if it has at most so many times as many elements as there are members. Then what is kept is a good part of it,
-/// and a try that fails has made at most so many elements for each member.
+/// The whole group is taken if it has at most this many elements for each member. Then what is kept is a good part of it, and a try that
+/// fails has not made more than this many elements for each member.
 const TIMES: u32 = 16;
 
 /// When the whole group is tried: with 4,096 members, and then each time there are twice as many.
@@ -15,7 +15,7 @@ const TIMES: u32 = 16;
 /// together cost a constant for each member.
 #[derive(Clone, Copy, Debug, Drop)]
 pub struct WholeGroupPolicy {
-    /// From how many members on the whole group is tried next.
+    /// How many members there are when the whole group is tried next.
     due: u32,
 }
 
@@ -25,8 +25,8 @@ impl WholeGroupPolicy {
         WholeGroupPolicy { due: FIRST_TRY }
     }
 
-    /// How many elements the group may have that is to be tried now, with so many members; `None` if none is to be tried. A group that is
-    /// to be tried counts as tried.
+    /// How many elements the group may have, if it is to be tried now, with this many members; `None` if it is not. What is to be tried
+    /// counts as tried.
     pub fn next_try(&mut self, members: u32, limit: u32) -> Option<u32>
         requires { 1 ≤ limit }
         ensures some { IfSome result (λ n. 1 ≤ n) }

@@ -137,14 +137,14 @@ impl Workspace {
         }
     }
 
-    /// What inverse polynomials are read off, where all rows of a finite group are kept.
+    /// What inverse polynomials are read off, if it is known that they can be read off the rows that are kept.
     pub(crate) fn whole_group(&self) -> Option<LongestElement>
         ensures { IfSome result (λ group. IsSomeAnd self.now.rows (λ rows. IsReadOff rows group)) }
     {
         self.kept.whole_group()
     }
 
-    /// Sees to it that the row of w is kept, and tells its number.
+    /// Makes sure that the row of w is kept, and returns its number.
     pub(crate) fn keep_row<M: RowMaker>(
         &mut self,
         maker: &M,
@@ -163,7 +163,7 @@ impl Workspace {
         self.make_row(maker, alloc, i)
     }
 
-    /// Sees to it that the row of the member with the number i is kept. The members stay, and the number is returned.
+    /// Makes sure that the row of the member with the number i is kept. The members stay, and the number is returned.
     pub(crate) fn make_row<M: RowMaker>(
         &mut self,
         maker: &M,
@@ -193,7 +193,7 @@ impl Workspace {
         unless_fault(made, i)
     }
 
-    /// Sees to it that the interval from the identity to w is part of what is kept, and tells the number of w there.
+    /// Makes sure that what is kept includes the interval from the identity to w, and returns the number of w there.
     pub(crate) fn keep_interval(&mut self, alloc: Global, w: &Word) -> Result<u32, Unanswered>
         requires { IsWord self.old.table.rank w.now.items }
         ensures same { IsSameWorkspace self.old self.new }
@@ -279,7 +279,7 @@ impl Workspace {
         }
     }
 
-    /// Sees to it that the rows of all z with y <= z <= w are kept, where y <= w have these numbers. Returns their numbers then.
+    /// Makes sure that the rows of all z with y <= z <= w are kept, where y <= w have these numbers. Returns the numbers that they have then.
     pub(crate) fn keep_between<M: RowMaker>(
         &mut self,
         maker: &M,
@@ -316,8 +316,8 @@ impl Workspace {
         unless_fault(made, ends)
     }
 
-    /// Makes the rows of the whole group, where there are many members between y and w, and it is finite. Where these are refused, it is as
-    /// if they had not been asked for. The numbers of y and w are returned.
+    /// Makes the rows of the whole group, if there are many members between y and w, and the group is finite. If these rows are refused, it
+    /// is as if they had not been asked for. Returns the numbers of y and w.
     fn gather<M: RowMaker>(
         &mut self,
         maker: &M,
@@ -347,7 +347,7 @@ impl Workspace {
         Ok(self.ends_of(y, w, high))
     }
 
-    /// Takes the whole group, where what is kept has a good part of it. No answer depends on it: members and rows that are kept stay.
+    /// Takes the whole group, if what is kept is a good part of it. No answer depends on it: members and rows that are kept stay.
     fn take_group(&mut self)
         ensures same { IsSameWorkspace self.old self.new }
     {
@@ -365,7 +365,7 @@ impl Workspace {
         }
     }
 
-    /// Sees to it that the rows of all elements of the group are kept.
+    /// Makes sure that the rows of all elements of the group are kept.
     pub(crate) fn keep_group<M: RowMaker>(
         &mut self,
         maker: &M,
@@ -389,7 +389,7 @@ impl Workspace {
         unless_fault(made, ())
     }
 
-    /// Adds the elements below w to what is kept, if they fit beside it. `Err` where memory ran out.
+    /// Adds the elements below w to what is kept, if they fit beside it. `Err` if memory ran out.
     pub(crate) fn add_interval(&mut self, alloc: Global, w: &Word) -> Result<(), AllocError>
         requires { IsWord self.old.table.rank w.now.items }
         ensures { IsSameWorkspace self.old self.new }

@@ -80,7 +80,7 @@ impl Workspace {
         }
     }
 
-    /// The same for the row of w for its certificate, which may be refused without the row. The number of w is told.
+    /// The same for the row of w for its certificate, which may be refused without the row. Returns the number of w.
     fn make_certified<M: RowMaker>(
         &mut self,
         maker: &M,

@@ -97,7 +97,7 @@ impl RowTotals {
 }
 
 impl Workspace {
-    /// Puts the totals of the rows of so many words that are generated from a state.
+    /// Puts the totals of the rows of `count` words that are generated from the state `start`.
     pub(crate) fn put_totals(
         &self,
         out: &mut Vec<u8>,
@@ -116,7 +116,7 @@ impl Workspace {
         unrefused(put_work(out, u64::from(count), totals.entries, totals.degree, sum))
     }
 
-    /// The totals of the rows of so many words that are generated from a state. The first word that is refused decides.
+    /// The totals of the rows of `count` words that are generated from the state `start`. The first word that is refused decides.
     pub(crate) fn totals_of_words<M: RowMaker>(
         &mut self,
         maker: &M,

@@ -46,7 +46,7 @@ impl Workspace {
     }
 }
 
-/// Puts Q(y,w), where y <= w, these are their numbers, and the rows of all members between them are held. It is read off a row where the
+/// Puts Q(y,w), where y <= w, these are their numbers, and the rows of all members between them are held. It is read off a row if the
 /// rows of a whole group are there.
 fn put_inverse(
     out: &mut Vec<u8>,

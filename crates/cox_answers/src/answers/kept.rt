@@ -28,9 +28,9 @@ pub fn with_row<M: RowMaker>(alloc: Global, rows: Rows, maker: &M, i: u32) -> Ro
     maker.make(alloc, rows, &[i])
 }
 
-/// Sees to it that the interval from the identity to w is part of what is kept, and tells the number of w there.
+/// Makes sure that what is kept includes the interval from the identity to w, and returns the number of w there.
 ///
-/// What is kept grows by that interval. Where both together are too large, the interval alone is kept from then on.
+/// What is kept grows by that interval. If both together are too large, the interval alone is kept from then on.
 pub fn keep_interval(
     alloc: Global,
     kept: &mut Option<Rows>,
@@ -62,7 +62,8 @@ pub fn keep_interval(
     keep_alone(alloc, kept, table, options, w)
 }
 
-/// Adds the elements below w to what is kept, if they fit beside it; where nothing is kept, they alone are. Without memory nothing is kept.
+/// Adds the elements below w to what is kept, if they fit beside it. If nothing is kept, they alone are kept. If memory runs out, nothing is
+/// kept any more.
 pub fn add_interval(
     alloc: Global,
     kept: &mut Option<Rows>,
@@ -89,7 +90,7 @@ pub fn add_interval(
     }
 }
 
-/// Adds the elements below w to what is kept, if it has at most so many members then. Else all is as before.
+/// Adds the elements below w to what is kept, if it has at most `most` members then. Otherwise nothing changes.
 pub fn widen(kept: &mut Option<Rows>, table: &RootTable, options: Options, w: &Word, most: u32)
     requires word { IsWord table.now.rank w.now.items }
     requires some { 1 ≤ most }
@@ -104,8 +105,8 @@ pub fn widen(kept: &mut Option<Rows>, table: &RootTable, options: Options, w: &W
     }
 }
 
-/// Keeps the interval from the identity to w alone, with no rows, and tells the number of w there. What was kept is given up first.
-// fast: inlined, room for the context and the rows would be cleared at each line, also where the row is there
+/// Keeps the interval from the identity to w alone, with no rows, and returns the number of w there. What was kept is given up first.
+// fast: not inlined, or each line clears room for a context and its rows, even if the row that it asks for is there
 #[inline(never)]
 fn keep_alone(
     alloc: Global,

@@ -24,7 +24,7 @@ use cox_replies::{Unanswered, is_in_order};
 use cox_rows::Rows;
 use std::alloc::{AllocError, Global};
 
-/// The same rows, and maybe more: those of all members are asked for that are not there, if there is memory for their numbers.
+/// The same rows, and maybe more: all rows that are missing are asked for, if there is memory for the numbers of their members.
 pub fn with_all<M: RowMaker>(alloc: Global, rows: Rows, maker: &M) -> Rows
     requires { M.ready maker.now }
     ensures { IsMore rows result }
@@ -51,10 +51,10 @@ fn missing_members(alloc: Global, rows: &Rows) -> Result<Vec<u32>, AllocError>
     Ok(missing)
 }
 
-/// Sees to it that the members of what is kept are all elements of the group, in ShortLex order.
+/// Makes sure that the members of what is kept are all elements of the group, in ShortLex order.
 ///
-/// What is kept stays if they are so already. Else they alone are kept, with no rows yet: where all elements are members in another order,
-/// rows are made anew, once, and kept from then on.
+/// If they are already, what is kept stays. Otherwise the elements are kept without any rows, even if all of them were members in another
+/// order: the rows are then made again, once, and kept from then on.
 pub fn keep_elements(
     alloc: Global,
     kept: &mut Option<Rows>,
@@ -91,7 +91,7 @@ pub fn holds_group(rows: &Rows) -> bool
     has_all(rows)
 }
 
-/// All elements of the group. They are refused where there are more than the options admit.
+/// All elements of the group. They are refused if there are more than the options admit.
 fn group_of(alloc: Global, table: &RootTable, options: Options) -> Result<Context, Unanswered>
     ensures matrix { IfOk result (λ context. context.matrix ≡ table.now) }
     ensures few { IfOk result (λ context. length context.members ≤ options.context) }

@@ -20,8 +20,8 @@ use std::alloc::{AllocError, Global};
 impl Workspace {
     /// Makes the rows that commands will ask for, as far as the elements below theirs fit together into what is kept, and settles them.
     ///
-    /// Where a command is on the whole group, and the group is finite, all its rows are made first. The rows that `work` and `invpol` ask
-    /// for are left to them. No answer depends on it: what is refused, and what memory runs out for, is left to whoever asks.
+    /// If a command is on the whole group, and the group is finite, all its rows are made first. The rows that `work` and `invpol` ask for
+    /// are left to them. No answer depends on it: if something is refused, or memory runs out, whoever asks will find that out.
     pub fn make_ahead<M: RowMaker>(&mut self, maker: &M, alloc: Global, inquiries: &[Inquiry])
         requires words { All (HasLetters self.old.table.rank) inquiries.now }
         requires ready { M.ready maker.now }
@@ -125,7 +125,7 @@ fn asked_members(
     Ok(numbers)
 }
 
-/// The number of the member whose row a command asks for, if there is one. None is asked for by a certificate that is refused without it.
+/// The number of the member whose row a command asks for, if there is one. A certificate that is refused without its row asks for none.
 fn asked_member(alloc: Global, rows: &Rows, table: &RootTable, inquiry: &Inquiry) -> Option<u32>
     requires table { table.now ≡ rows.now.elements.matrix }
     requires words { HasLetters table.now.rank inquiry.now }
@@ -143,7 +143,7 @@ fn asked_member(alloc: Global, rows: &Rows, table: &RootTable, inquiry: &Inquiry
 }
 
 /// Makes the rows of the members with these numbers that are not there, and those that they need, each as far as none of them is beyond a
-/// limit. Where memory runs out, the others are left.
+/// limit. If memory runs out, the others are left out.
 fn settle_each(rows: &mut Rows, numbers: &[u32])
     requires { AreWithin (length rows.old.elements.members) numbers.now }
     ensures { IsMore rows.old rows.new }
