@@ -89,6 +89,17 @@ def refuse_library(folder):
     return path
 
 
+def reported(library, variable, words, script, **more):
+    """A run of these words with checks/refuse.c loaded, and the number that this variable asks of it: None where it was not written."""
+    read_end, write_end = os.pipe()
+    variables = {"LD_PRELOAD": library, variable: str(write_end)}
+    ran = subprocess.run(words, input=script, stdout=subprocess.PIPE, env=variables, pass_fds=[write_end], **more)
+    os.close(write_end)
+    with open(read_end, "rb") as report:
+        line = report.read()
+    return ran, int(line) if line else None
+
+
 def peak(child):
     """The most memory that a process has had by now, in KiB, once it has read what it was given."""
     while unread(child.stdin.fileno()):

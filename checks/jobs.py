@@ -16,7 +16,7 @@ import sys
 import tempfile
 import time
 
-from common import WORKERS, Count, program, refuse_library
+from common import WORKERS, Count, program, refuse_library, reported
 
 COXETER = program(sys.argv[1:])
 COUNT = Count()
@@ -35,12 +35,7 @@ def run(script, arguments=(), stdout=subprocess.PIPE, **streams):
 def most_memory(library, script):
     """The most memory that a run of this script holds at one time, in KiB: what it was given and has not given back, counted at each request
     (checks/refuse.c). What the kernel tells of a process wavers by more than what is compared here."""
-    read_end, write_end = os.pipe()
-    variables = {"LD_PRELOAD": library, "REFUSE_HELD": str(write_end)}
-    subprocess.run([COXETER], input=script, stdout=subprocess.DEVNULL, env=variables, pass_fds=[write_end], timeout=SECONDS)
-    os.close(write_end)
-    with open(read_end, "rb") as report:
-        return int(report.read()) >> 10
+    return reported(library, "REFUSE_HELD", [COXETER], script, timeout=SECONDS)[1] >> 10
 
 
 @functools.cache

@@ -6,6 +6,7 @@
 //   REFUSE_LAST=N    the last one
 //   REFUSE_COUNT=N   at the end the count of requests is written to the file descriptor N, as a line
 //   REFUSE_HELD=N    at the end the most bytes that were held at one time are written to the file descriptor N, as a line
+//   REFUSE_THREADS=N at the end the count of threads that were started is written to the file descriptor N, as a line
 //
 // What is held is counted as the library rounds it; what it keeps for itself, and how it shares pages out, is not.
 //
@@ -29,10 +30,10 @@ extern void __libc_free(void *);
 
 typedef int starting(pthread_t *, const pthread_attr_t *, void *(*)(void *), void *);
 
-static atomic_ulong requests;
+static atomic_ulong requests, threads;
 static atomic_long held, most;
 static unsigned long first, last;
-static int report = -1, report_held = -1;
+static int report = -1, report_held = -1, report_threads = -1;
 static starting *start;
 
 static unsigned long number(const char *name) {
@@ -40,14 +41,20 @@ static unsigned long number(const char *name) {
     return text ? strtoul(text, NULL, 10) : 0;
 }
 
+static int descriptor(const char *name) {
+    return getenv(name) ? (int)number(name) : -1;
+}
+
 // What the loader and the library ask for before the program begins is not counted.
 __attribute__((constructor)) static void begin(void) {
     start = (starting *)dlsym(RTLD_NEXT, "pthread_create");
-    report = getenv("REFUSE_COUNT") ? (int)number("REFUSE_COUNT") : -1;
-    report_held = getenv("REFUSE_HELD") ? (int)number("REFUSE_HELD") : -1;
+    report = descriptor("REFUSE_COUNT");
+    report_held = descriptor("REFUSE_HELD");
+    report_threads = descriptor("REFUSE_THREADS");
     last = number("REFUSE_LAST");
     first = number("REFUSE_FIRST");
     atomic_store(&requests, 0);
+    atomic_store(&threads, 0);
     atomic_store(&held, 0);
     atomic_store(&most, 0);
 }
@@ -57,7 +64,9 @@ __attribute__((destructor)) static void end(void) {
         dprintf(report, "%lu\n", atomic_load(&requests));
     if (report_held >= 0)
         dprintf(report_held, "%ld\n", atomic_load(&most));
-    report = report_held = -1;
+    if (report_threads >= 0)
+        dprintf(report_threads, "%lu\n", atomic_load(&threads));
+    report = report_held = report_threads = -1;
 }
 
 // A program that has threads may end by this, and then nothing is called at its end.
@@ -122,5 +131,10 @@ int posix_memalign(void **result, size_t align, size_t size) {
 }
 
 int pthread_create(pthread_t *thread, const pthread_attr_t *attributes, void *(*body)(void *), void *argument) {
-    return refused() ? EAGAIN : start(thread, attributes, body, argument);
+    if (refused())
+        return EAGAIN;
+    int failed = start(thread, attributes, body, argument);
+    if (!failed)
+        atomic_fetch_add(&threads, 1);
+    return failed;
 }

@@ -5,15 +5,17 @@
 
 Each script is run N times, 100 if nothing is said, with each number of workers; those of larger groups a tenth as often. Threads
 are started for much work alone, so it takes those to have several workers make rows. What has to come out is what the program
-writes with no option, which one thread answers. And what `crates/workers_stress` has to print of the rows of A 4 is counted
-by their definitions. It prints what differs, and a last line with counts; the exit status is 1 where something differs. It
-needs Python 3 alone, takes some minutes, and is no part of the gate.
+writes with no option, which one thread answers. Of some scripts the threads are counted that are started (checks/refuse.c, which
+is built by cc): none by one worker, and by others no more than they may share the work among. And what `crates/workers_stress` has
+to print of the rows of A 4 is counted by their definitions. It prints what differs, and a last line with counts; the exit status is
+1 where something differs. It needs Python 3, Linux and cc, takes some minutes, and is no part of the gate.
 """
 import argparse
 import os
 import subprocess
+import tempfile
 
-from common import TOP, Count, program
+from common import TOP, Count, program, refuse_library, reported
 from definitions import finite_group, labels_of
 
 # Whole groups, whose rows several workers share; single rows, dealt out as chains; rows that are kept from line to line; refusals; and
@@ -35,6 +37,21 @@ LARGER = [
     "type E 6\njobs\npol e 6543124543126543124543\nnext\npol 2 1345624531324565431243542\nnext\nextremals 243154234565431\nend\n",
 ]
 
+# How many threads so many workers start beside the one that there is. Few rows, and short lines, are left to that one. Rows of many members
+# are shared once, and are kept then; blocks of a list are shared after their rows are made, and each is answered by one thread.
+THREADS = [
+    ("type A 4\nlrcells\nklbasis 12321\nlrcells\n", lambda workers: 0),
+    ("type D 5\nlrcells\nlcells\nklbasis 12321\n", lambda workers: workers - 1),
+    ("type A 4\njobs\npol 2 2132\nnext\nmu 2 2132\nend\n", lambda workers: 0),
+    ("type A 4\njobs\nlrcells\nend\n", lambda workers: 0),
+    ("type A 4\njobs\nlrcells\nnext\nlwgraph\nnext\nlcells\nend\n", lambda workers: min(workers, 3) - 1),
+    ("type D 5\njobs\nlrcells\nnext\nlwgraph\nnext\nlcells\nend\n", lambda workers: workers - 1 + min(workers, 3) - 1),
+]
+
+# A single row is made by all workers, from those that it needs. For each of these that is dear, and for itself, all threads that may share
+# its polynomials are started once more.
+ONE_ROW = "type E 6\npol e 12314231435423143542654231435426543\n"
+
 
 def counts(group, rows):
     """How many rows these are, and how many polynomials, each once in a row, and values of mu they have."""
@@ -52,6 +69,25 @@ def stress(count):
         count.check("crates/workers_stress/stdout", lines.read().splitlines()[: len(want)], want)
 
 
+def threads(count, built):
+    """Compares how many threads are started with what the workers may share."""
+    with tempfile.TemporaryDirectory() as folder:
+        library = refuse_library(folder)
+
+        def started(script, workers):
+            ran, number = reported(library, "REFUSE_THREADS", [built, "--workers", str(workers)], script.encode())
+            count.check(f"{script!r} with {workers} workers: how it ends", ran.returncode, 0)
+            return number
+
+        for workers in (1, 2, 3, 4, 16):
+            for script, wanted in THREADS:
+                count.check(f"threads of {script!r} with {workers} workers", started(script, workers), wanted(workers))
+        count.check("threads of one row with 1 worker", started(ONE_ROW, 1), 0)
+        for workers in (2, 4):
+            rounds, rest = divmod(started(ONE_ROW, workers), workers - 1)
+            count.check(f"threads of one row with {workers} workers: {rounds} rounds", (rounds > 1, rest), (True, 0))
+
+
 def main():
     """Runs all of them."""
     parser = argparse.ArgumentParser(description=__doc__, formatter_class=argparse.RawDescriptionHelpFormatter)
@@ -61,6 +97,7 @@ def main():
     built = program(given.program)
     count = Count()
     stress(count)
+    threads(count, built)
 
     def answer(script, *words):
         ran = subprocess.run([built, *words], input=script.encode(), stdout=subprocess.PIPE)
