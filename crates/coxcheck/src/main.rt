@@ -73,8 +73,8 @@ fn exit_code(status: CheckStatus) -> ExitCode
     ExitCode::from(status.code())
 }
 
-/// Checks with the arguments that were collected, and gives the status out. What the check is, each of the cases says, as `start` does; no
-/// contract tells which arguments an environment has.
+/// Checks with the arguments that were collected, and gives the status out. Its contract says for each case which check that is, as that of
+/// `start` does. No contract tells which arguments an environment has.
 fn ended<S: Source, K: Sink>(
     alloc: Global,
     collected: Result<Option<Vec<String>>, AllocError>,

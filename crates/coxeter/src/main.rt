@@ -119,8 +119,8 @@ fn exit_code(status: Status) -> ExitCode
     ExitCode::from(status.code())
 }
 
-/// Runs the shell with the arguments that were found, and gives its status out. What the run is, each of the cases says, as `start` does; no
-/// contract tells which arguments an environment has.
+/// Runs the shell with the arguments that were found, and gives its status out. Its contract says for each case which run that is, as that
+/// of `start` does. No contract tells which arguments an environment has.
 fn ended<R: Threads + Wait + Sync, S: Source, K: Sink, G: Gate + Sync>(
     rt: &R,
     alloc: Global,
