@@ -4,13 +4,14 @@ things, and the width of lines.
 
     checks/documents.py [--write]
 
-docs/ARCHITECTURE.md has the one table of crates. It has to have each crate of crates.txt once, in
-the order and under the headings of that file, with the crates that its code names; no crate may
-stand on one below it. The tables of other documents have each crate that they are about, and none
-that is not there. A limit has the value that its constant has, where a table or a sentence tells
-it. Links lead to files and headings, what is named as a file is one, and a name in backticks stands
-somewhere in the tree. Lines have at most 100 characters, but for tables, blocks of code and links
-that are too long by themselves. docs/BENCHMARKS.md has at most 120 lines.
+docs/ARCHITECTURE.md has the one table of crates. It has to have each crate of crates.txt once,
+in the order and under the headings of that file, with the crates that its code names; no crate
+may stand on one below it, or list there what its files do not name. The tables of other
+documents have each crate that they are about, and none that is not there. A limit has the value
+that its constant has, where a table or a sentence tells it. Links lead to files and headings,
+what is named as a file is one, and a name in backticks stands somewhere in the tree. Lines have
+at most 100 characters, but for tables, blocks of code and links that are too long by themselves.
+docs/BENCHMARKS.md has at most 120 lines.
 
 With --write it writes the column of what crates name and the values of limits, fills paragraphs
 that are too wide, and then checks. It prints what is wrong, and a last line with counts; the exit
@@ -120,6 +121,17 @@ def files_of(folder, endings):
                 yield os.path.join(root, name)
 
 
+def used_by(crate):
+    """What the code, the definitions and the proofs of a crate name, crates of the kit among them."""
+    found = set()
+    for path in files_of(os.path.join("crates", crate), (".rt", ".antt")):
+        text = re.sub(r"^\s*//.*$", "", read(path), flags=re.M)
+        found |= set(re.findall(r"\bRattle\.(\w+)\.", text))
+        if path.endswith(".rt"):
+            found |= set(re.findall(r"\b(\w+)::", text))
+    return found
+
+
 def named_by(crate, crates):
     """The crates that the code of a crate names, in the order of crates.txt. A module may have the
     name of a crate that stands further down there."""
@@ -198,6 +210,8 @@ def crate_tables(problems, write):
     for place, crate in enumerate(crates):
         late = [it for it in below[crate] if it in crates[place:]]
         problems.want(not late, f"crates.txt: {crate} stands on {late}, which come later")
+        idle = [it for it in below[crate] if it not in used_by(crate)]
+        problems.want(not idle, f"crates.txt: {crate} lists {idle}, and does without")
     architecture_table(problems, listed, write)
     table = rows_of(section(read("docs/PROVED.md"), "## Crate by crate"))
     proved = sorted(it for cells in table for it in spans(cells[0]))
