@@ -1,6 +1,6 @@
 //! Sums of multiples of polynomials, in 128 bits a coefficient.
 ghost use Rattle.std.specs.Prelude.{◌≡◌, ◌≢◌, ◌↔◌, ℕ, ℤ, ◌+◌, ◌-◌, ◌^◌, ◌<◌, ◌≤◌, pos, ◌*ℤ◌, ◌<ℤ◌, ◌≤ℤ◌, unsigned_abs, length, false};
-ghost use Rattle.std.specs.Prelude.{IsTrue, OnOk, IfOk, IfErr, Err};
+ghost use Rattle.std.specs.Prelude.{IsTrue, IsOk, OnOk, IfOk, IfErr, Err};
 ghost use Rattle.cox_poly.specs.Polynomial.{coefficient, IsPolynomial, SameCoefficients, IsTrimmedLength, coefficient_after};
 ghost use Rattle.cox_poly.specs.Fingerprint.{mixed, fingerprint};
 ghost use Rattle.cox_poly.specs.Limit.{IsWithin, AllWithin, IsFirstAbove};
@@ -105,7 +105,8 @@ fn measure(sums: &[i128], limit: i64) -> Result<usize, usize>
 // The same list in fewer bits.
 fn narrowed_list(alloc: Global, sums: &[i128]) -> Result<Vec<i64>, NoMemory>
     requires { (k : ℕ) → unsigned_abs (coefficient sums.now k) < 2 ^ 63 }
-    ensures { IfOk result (λ v. v.items ≡ sums.now) }
+    ensures items { IfOk result (λ v. v.items ≡ sums.now) }
+    ensures empty { length sums.now ≡ 0 → IsOk result }
 {
     let mut items = Vec::with_capacity(alloc, sums.len())?;
     for sum in sums {
@@ -226,13 +227,14 @@ impl Acc {
     /// `TooBig` comes exactly where a coefficient is above the limit in absolute value, with the
     /// least degree of such a coefficient and its value: under limit 2 the sum `3q^2 + 3q^3` is
     /// too big at degree 2, by 3. Memory is asked for only after that, and `NoMemory` comes where
-    /// there is none for the polynomial.
+    /// there is none for the polynomial. The sum 0 takes none.
     pub fn close(&self, alloc: Global, limit: i64) -> Result<Poly, PolyFault>
         ensures sum { IfOk result (λ p. SameCoefficients p self.now) }
         ensures normal { IfOk result IsPolynomial }
         ensures within { OnOk result (AllWithin limit self.now) }
         ensures too_big { (d : ℕ) (v : ℤ) →
             (result ≡ Err (PolyFault.TooBig d v)) ↔ IsFirstAbove limit self.now d v }
+        ensures zero { ((k : ℕ) → coefficient self.now k ≡ pos 0) → pos 0 ≤ℤ limit → IsOk result }
     {
         if limit < 0 {
             // not even 0 is within it

@@ -1,5 +1,5 @@
 //! Polynomials in `q` with coefficients of 64 bits.
-ghost use Rattle.std.specs.Prelude.{◌≡◌, ◌↔◌, ◌+◌, ◌-◌, ◌^◌, ◌<◌, [], ◌∷◌, pos, ℤ, List, Ok, Err, IfOk, IfSome};
+ghost use Rattle.std.specs.Prelude.{◌≡◌, ◌↔◌, ◌+◌, ◌-◌, ◌^◌, ◌<◌, [], ◌∷◌, pos, ℕ, ℤ, List, length, Ok, Err, IsOk, IfOk, IfSome};
 ghost use Rattle.std.specs.Prelude.{IsNone};
 ghost use Rattle.cox_poly.specs.Polynomial.{coefficient, IsPolynomial, IsStorable, SameCoefficients, HasSmallCoefficients, IsDegree};
 ghost use Rattle.cox_poly.specs.Polynomial.{IsTrimmedLength};
@@ -48,26 +48,39 @@ fn trimmed_len(list: &[i64]) -> usize
     len
 }
 
+// The same list in memory of its own; the empty one takes none.
+fn copied(alloc: Global, list: &[i64]) -> Result<Vec<i64>, NoMemory>
+    ensures items { IfOk result (λ v. v.items ≡ list.now) }
+    ensures empty { length list.now ≡ 0 → IsOk result }
+{
+    let mut items = Vec::with_capacity(alloc, list.len())?;
+    items.extend_from_slice(list)?;
+    Ok(items)
+}
+
 impl Poly {
     /// The polynomial with these coefficients, from the constant one up; zeros at the end count
     /// for nothing.
     ///
-    /// `NoMemory` comes where there is no memory, and for a degree of `2^32` or more.
+    /// `NoMemory` comes where there is no memory, and for a degree of `2^32` or more. The zero
+    /// polynomial takes none.
     pub fn of(alloc: Global, list: &[i64]) -> Result<Poly, NoMemory>
         ensures same { IfOk result (λ p. SameCoefficients p list.now) }
         ensures normal { IfOk result IsPolynomial }
+        ensures zero { ((k : ℕ) → coefficient list.now k ≡ pos 0) → IsOk result }
     {
         let len = trimmed_len(list);
         if len > MAX_LEN {
             return Err(AllocError);
         }
-        let coefficients = Vec::from_slice(alloc, &list[..len])?;
+        let coefficients = copied(alloc, &list[..len])?;
         Ok(Poly { coefficients })
     }
 
-    /// The zero polynomial.
+    /// The zero polynomial. It takes no memory, so it is always made.
     pub fn zero(alloc: Global) -> Result<Poly, NoMemory>
-        ensures { IfOk result (λ p. p ≡ []) }
+        ensures zero { IfOk result (λ p. p ≡ []) }
+        ensures made { IsOk result }
     {
         Ok(Poly {
             coefficients: Vec::new(alloc),
@@ -82,11 +95,12 @@ impl Poly {
         Ok(Poly { coefficients })
     }
 
-    /// An equal polynomial with memory of its own: one allocation.
+    /// An equal polynomial with memory of its own: one allocation, and none for the zero polynomial.
     pub fn copy(&self) -> Result<Poly, NoMemory>
-        ensures { IfOk result (λ p. p ≡ self.now) }
+        ensures equal { IfOk result (λ p. p ≡ self.now) }
+        ensures zero { self.now ≡ [] → IsOk result }
     {
-        let coefficients = Vec::from_slice(*self.coefficients.allocator(), &self.coefficients)?;
+        let coefficients = copied(*self.coefficients.allocator(), &self.coefficients)?;
         Ok(Poly { coefficients })
     }
 

@@ -35,7 +35,7 @@ returns-in_err-coefficients-in-Ok-clause-too_big c =
 pub returns-in_ok-coefficients-in-Ok-clause-sum : goal.returns-in_ok-coefficients-in-Ok-clause-sum
 returns-in_ok-coefficients-in-Ok-clause-sum c k =
     let same = coefficient-take_twice c.self.inside.sums c.self.inside.used c.in-Ok.len c.self.invariant.1 c.in-Ok.ensures.trimmed k in
-    rw (c.from_trimmed.ensures, c.in_ok-coefficients-in-Ok.ensures, ← c.self.view_is) same
+    rw (c.from_trimmed.ensures, c.in_ok-coefficients-in-Ok.ensures.items, ← c.self.view_is) same
 
 pub returns-in_ok-coefficients-in-Ok-clause-within : goal.returns-in_ok-coefficients-in-Ok-clause-within
 returns-in_ok-coefficients-in-Ok-clause-within c =
@@ -51,7 +51,7 @@ returns-in_ok-coefficients-in-Ok-clause-too_big c =
 pub from_trimmed-requires : goal.from_trimmed-requires
 from_trimmed-requires c =
     let limit_fits : FitsSigned w64 c.args.limit = c.ranges.limit in
-    rw c.in_ok-coefficients-in-Ok.ensures
+    rw c.in_ok-coefficients-in-Ok.ensures.items
     (IsStorable-take c.args.limit _ c.in-Ok.len (simp to_z-of_z at c.in-Ok.ensures.within)
     (omega (arith, ints)) limit_fits c.in-Ok.ensures.trimmed
     (omega (arith, c.self.invariant.0, length-take c.self.inside.used c.self.inside.sums)))
