@@ -1,5 +1,5 @@
 -- One text behind another.
-use Rattle.std.proofs.Common.{◌≡◌, ◌<◌, ◌≤◌, ◌+◌, ℕ, List, ◌++◌, ◌∷◌, [], take, drop, length, get_or, Result, Ok, Err, IsErr}
+use Rattle.std.proofs.Common.{◌≡◌, ◌<◌, ◌≤◌, ◌+◌, ℕ, List, ◌++◌, ◌∷◌, [], take, drop, length, get_or, Result, Ok, Err, IsErr, OnErr}
 use Rattle.std.proofs.Common.{append_assoc, add-one, ap}
 use Rattle.std.proofs.Common.{sym, ◌∙◌}
 use Rattle.std.specs.List.{flat_map}
@@ -8,6 +8,11 @@ use Rattle.std.proofs.lemmas.List.{take-append-drop, take_all, flat_map_more}
 use Rattle.std.proofs.lemmas.Grind.{flat_map-append}
 use Rattle.std.specs.declared.alloc.AllocError.{AllocError}
 use Rattle.cox_poly.specs.Puts.{PutsPrefix, Puts}
+
+-- what holds anyway holds where memory ran out
+pub on_err : {X E : Type 0} {P : Type 0} (r : Result X E) → P → OnErr r P
+on_err (Ok x) p = tt
+on_err (Err e) p = p
 
 -- a prefix of the first text is one of both
 pub PutsPrefix-first : (a b old new : List ℕ) → PutsPrefix a old new → PutsPrefix (a ++ b) old new

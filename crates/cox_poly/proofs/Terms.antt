@@ -1,6 +1,6 @@
 -- The text of a polynomial, written term by term.
 use Rattle.std.proofs.Common.{◌≡◌, ◌≢◌, ℕ, zero, suc, ◌+◌, ◌<◌, ◌≤◌, Bool, true, false, not, List, ◌∷◌, ◌++◌, length, drop, filter}
-use Rattle.std.proofs.Common.{flat_map, codes, refl, append_assoc, add-one, arith}
+use Rattle.std.proofs.Common.{flat_map, codes, refl, ap, append_assoc, length-append, add-one, arith}
 use Rattle.std.proofs.Common.{ℤ, pos, negsuc}
 use Rattle.std.specs.Ordering.{int_eq}
 use Rattle.std.specs.List.{enumerate_from}
@@ -42,6 +42,20 @@ Written-more {old} {out} new piece rest' w put split = record {
   parts = let e = w.parts in let f = append_assoc w.prefix piece rest' in cc;
   behind = append-second w.prefix piece old out new w.behind put;
 }
+
+-- a vector that has no room for the next piece had none for the text
+pub Written-full : {old out text rest : List ℕ} (capacity : ℕ) (piece rest' : List ℕ)
+    → Written old out text rest → rest ≡ piece ++ rest' → capacity < length out + length piece → capacity < length old + length text
+Written-full {old} {out} {text} {rest} capacity piece rest' w split full = omega (
+  arith,
+  full,
+  ap (λ (l : List ℕ). length l) w.parts,
+  ap (λ (l : List ℕ). length l) w.behind,
+  ap (λ (l : List ℕ). length l) split,
+  length-append w.prefix rest,
+  length-append old w.prefix,
+  length-append piece rest',
+)
 
 -- the coefficients from k on are the one at k and those from k + 1 on
 drop-step : (p : List ℤ) (k : ℕ) → k < length p → drop k p ≡ coefficient p k ∷ drop (k + 1) p

@@ -5,6 +5,7 @@
 //! in place, without memory, and gives its sum back only where each coefficient is within a limit.
 //! A text is appended to a vector of bytes: whole, or, where memory runs out, a prefix of it, as
 //! `Puts` in `specs/Puts.antt` says; `proofs/Behind.antt` has what follows for one text behind another.
+//! Memory can run out only where the vector has no room for the whole text, and its capacity never shrinks.
 //! It stands on `itoa` for digits and `thiserror` for the fault.
 //!
 //! - `polynomial`: the polynomials;

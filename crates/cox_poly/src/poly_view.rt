@@ -1,5 +1,5 @@
 //! A polynomial whose coefficients another value keeps.
-ghost use Rattle.std.specs.Prelude.{◌≡◌, ◌↔◌, [], IfSome, IsNone};
+ghost use Rattle.std.specs.Prelude.{◌≡◌, ◌↔◌, ◌<◌, ◌≤◌, ◌+◌, [], length, vec_len, vec_capacity, IfSome, IsNone, OnErr};
 ghost use Rattle.cox_poly.specs.Polynomial.{coefficient, IsPolynomial, IsStorable, HasSmallCoefficients, IsDegree};
 ghost use Rattle.cox_poly.specs.Puts.{Puts};
 ghost use Rattle.cox_poly.specs.PolynomialText.{polynomial_text};
@@ -72,9 +72,12 @@ impl<'a> PolyView<'a> {
     }
 
     /// Appends the text: the terms by rising degree, as in `1+2q+q^2`, `-1+q` and `-2q^3`, and `0`
-    /// for the zero polynomial. Out of memory, only its first bytes may be there.
+    /// for the zero polynomial. Out of memory, only its first bytes may be there; a vector with room
+    /// for it takes it whole.
     pub fn put_text(&self, out: &mut Vec<u8>) -> Result<(), NoMemory>
-        ensures { Puts result (polynomial_text self.now) out.old.items out.new.items }
+        ensures text { Puts result (polynomial_text self.now) out.old.items out.new.items }
+        ensures full { OnErr result (vec_capacity out.old < vec_len out.old + length (polynomial_text self.now)) }
+        ensures capacity { vec_capacity out.old ≤ vec_capacity out.new }
     {
         put_polynomial(out, self.coefficients)
     }

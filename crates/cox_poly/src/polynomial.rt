@@ -1,6 +1,6 @@
 //! Polynomials in `q` with coefficients of 64 bits.
 ghost use Rattle.std.specs.Prelude.{◌≡◌, ◌↔◌, ◌+◌, ◌-◌, ◌^◌, ◌<◌, [], ◌∷◌, pos, ℕ, ℤ, List, length, Ok, Err, IsOk, IfOk, IfSome};
-ghost use Rattle.std.specs.Prelude.{IsNone};
+ghost use Rattle.std.specs.Prelude.{◌≤◌, vec_len, vec_capacity, OnErr, IsNone};
 ghost use Rattle.cox_poly.specs.Polynomial.{coefficient, IsPolynomial, IsStorable, SameCoefficients, HasSmallCoefficients, IsDegree};
 ghost use Rattle.cox_poly.specs.Polynomial.{IsTrimmedLength};
 ghost use Rattle.cox_poly.specs.Puts.{Puts};
@@ -138,9 +138,12 @@ impl Poly {
     }
 
     /// Appends the text: the terms by rising degree, as in `1+2q+q^2`, `-1+q` and `-2q^3`, and `0`
-    /// for the zero polynomial. Out of memory, only its first bytes may be there.
+    /// for the zero polynomial. Out of memory, only its first bytes may be there; a vector with room
+    /// for it takes it whole.
     pub fn put_text(&self, out: &mut Vec<u8>) -> Result<(), NoMemory>
-        ensures { Puts result (polynomial_text self.now) out.old.items out.new.items }
+        ensures text { Puts result (polynomial_text self.now) out.old.items out.new.items }
+        ensures full { OnErr result (vec_capacity out.old < vec_len out.old + length (polynomial_text self.now)) }
+        ensures capacity { vec_capacity out.old ≤ vec_capacity out.new }
     {
         self.view().put_text(out)
     }

@@ -5,13 +5,13 @@ use Rattle.cox_poly.specs.PolynomialText.{plus_text, term_text}
 use Rattle.cox_poly.proofs.Behind.{Puts-first, Puts-second}
 use Rattle.cox_poly.proofs.polynomial_text.put_next_term.Goals as goal
 
-pub returns-in_err-put_plus : goal.returns-in_err-put_plus
-returns-in_err-put_plus c =
+pub returns-in_err-put_plus-clause-text : goal.returns-in_err-put_plus-clause-text
+returns-in_err-put_plus-clause-text c =
     let fits : FitsSigned w64 c.args.c = c.ranges.c in
-    Puts-first _ (plus_text c.args.c) (term_text (c.args.k, c.args.c)) _ _ (search rules) (simp to_z-of_z at c.in_err-put_plus.ensures)
+    Puts-first _ (plus_text c.args.c) (term_text (c.args.k, c.args.c)) _ _ (search rules) (simp to_z-of_z at c.in_err-put_plus.ensures.text)
 
-pub returns : goal.returns
-returns c =
+pub returns-clause-text : goal.returns-clause-text
+returns-clause-text c =
     let fits : FitsSigned w64 c.args.c = c.ranges.c in
-    let plus = simp to_z-of_z at c.in_ok-put_plus.ensures in
-    Puts-second _ (plus_text c.args.c) (term_text (c.args.k, c.args.c)) _ _ _ plus (simp to_z-of_z at c.put_term.ensures)
+    let plus = simp to_z-of_z at c.in_ok-put_plus.ensures.text in
+    Puts-second _ (plus_text c.args.c) (term_text (c.args.k, c.args.c)) _ _ _ plus (simp to_z-of_z at c.put_term.ensures.text)

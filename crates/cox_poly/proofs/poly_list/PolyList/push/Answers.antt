@@ -1,13 +1,9 @@
 -- The list is as it was, or has one polynomial more.
-use Rattle.std.proofs.Common.{◌≡◌, [], length, refl, sym, ◌∙◌, append-nil, arith, Result, Ok, Err}
-use Rattle.std.specs.Result.{OnErr}
+use Rattle.std.proofs.Common.{◌≡◌, [], length, refl, sym, ◌∙◌, append-nil, arith}
 use Rattle.cox_poly.specs.PolyLists.{start_at, pieces}
+use Rattle.cox_poly.proofs.Behind.{on_err}
 use Rattle.cox_poly.proofs.Stored.{kept, pushed}
 use Rattle.cox_poly.proofs.poly_list.PolyList.push.Goals as goal
-
-on_err : {X E : Type 0} {P : Type 0} (r : Result X E) → P → OnErr r P
-on_err (Ok x) p = tt
-on_err (Err e) p = p
 
 pub invariant_of-self : goal.invariant_of-self
 invariant_of-self c =
