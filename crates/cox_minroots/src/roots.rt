@@ -1,5 +1,5 @@
 //! A set of roots in the order in which they came.
-ghost use Rattle.std.specs.Prelude.{◌≡◌, ◌<◌, [], length, Contains, OnOk, MatchOption};
+ghost use Rattle.std.specs.Prelude.{◌≡◌, ◌<◌, [], length, Contains, OnOk, OnErr, MatchOption};
 ghost use Rattle.cox_minroots.specs.RootLists.{root_at, IsInserted};
 
 use crate::root::Root;
@@ -54,9 +54,11 @@ impl Roots {
         self.set.get_index_of(root)
     }
 
-    /// Puts a root last, unless it is here.
+    /// Puts a root last, unless it is here. Memory can run out for a new root only, and the roots stay then.
     pub(crate) fn insert(&mut self, root: Root) -> Result<(), AllocError>
-        ensures { OnOk result (IsInserted self.old root self.new) }
+        ensures inserted { OnOk result (IsInserted self.old root self.new) }
+        ensures fault { OnErr result (¬ Contains self.old root) }
+        ensures kept { OnErr result (self.new ≡ self.old) }
     {
         let Ok(_) = self.set.insert(root) else {
             return Err(AllocError);

@@ -30,7 +30,7 @@ loop-s-preserved c =
           c.args.roots.now
           c.loop-s.roots c.args.i c.loop-s.s c.loop-s.invariant letter c.at-root.result c.at-root.ensures c.product-product.result
           c.product-product.ensures c.requires.few w.turned.result w.turned.ensures.root w.turned.ensures.coroot
-          w.insert.new.self w.if-product-ge1.true w.if-product-le-LONGEST.true w.in_ok-insert.ensures)
+          w.insert.new.self w.if-product-ge1.true w.if-product-le-LONGEST.true w.in_ok-insert.ensures.inserted)
       | else-product-ge1 w ↦ rw w.roots-is (elim w.else-product-ge1.branch [
         | else-product-ge1-via-then-product-ge1+else-product-le-LONGEST w' ↦
             stepping-passed c.args.g.now c.rank.ensures.matrix (omega (arith, c.rank.ensures.rank, c.rank.ensures.limit)) c.args.roots.now
