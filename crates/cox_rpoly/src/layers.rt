@@ -4,7 +4,7 @@
 //! is R(sx,u), and else it is (q-1) R(x,u) + q R(sx,u), where R(sx,u) is 0 unless sx <= u. So a layer leads to the next by links, which
 //! stay while the elements go, and the values come back by them from the end of the word, where the identity alone is left.
 //! There is no value where a number of an element overflows.
-ghost use Rattle.std.specs.Prelude.{◌+◌, ◌≤◌, ◌∷◌, length, IfOk, OnOk, IsTrue, All};
+ghost use Rattle.std.specs.Prelude.{◌≡◌, ◌+◌, ◌≤◌, ◌∷◌, length, IfOk, OnOk, OnErr, IsTrue, All, Contains};
 ghost use Rattle.cox_base.specs.Matrix.{IsLetter, IsWord};
 ghost use Rattle.cox_base.specs.IntegerMatrix.{integer_matrix};
 ghost use Rattle.cox_base.specs.Reduced.{IsReduced};
@@ -109,10 +109,12 @@ fn link<W: Words, E: Element>(
     }
 }
 
-/// The number of an element in a layer, which takes it up if it is not there.
+/// The number of an element in a layer, which takes it up if it is not there. Only then can memory run out, and the layer stays.
 fn number<E: Element>(layer: &mut IndexSet<E>, x: E) -> Result<usize, NoMemory>
     ensures at { IfOk result (λ i. IsAt layer.new.keys i x) }
     ensures grown { OnOk result (HasGained layer.old.keys x layer.new.keys) }
+    ensures fault { OnErr result (¬ Contains layer.old.keys x) }
+    ensures kept { OnErr result (layer.new.keys ≡ layer.old.keys) }
 {
     let (number, _) = layer.insert_full(x)?;
     Ok(number)

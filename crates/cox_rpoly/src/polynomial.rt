@@ -1,5 +1,5 @@
 //! R-polynomials of two words.
-ghost use Rattle.std.specs.Prelude.{◌≡◌, ℕ, ◌+◌, ◌≤◌, ◌↔◌, length, Err, IfOk, IsTrue};
+ghost use Rattle.std.specs.Prelude.{◌≡◌, ℕ, ◌+◌, ◌≤◌, ◌↔◌, length, Err, IfOk, IsOk, IsTrue};
 ghost use Rattle.cox_base.specs.Bruhat.{IsBelow};
 ghost use Rattle.cox_base.specs.IntegerMatrix.{integer_matrix};
 ghost use Rattle.cox_base.specs.Length.{word_length};
@@ -24,7 +24,7 @@ use std::alloc::Global;
 /// R(y,w), for words of at most `words.longest()` letters; it is 0 unless y <= w.
 ///
 /// `Deep(d)` comes exactly where y <= w and the lengths differ by d, which is more than [`MAX_DIFFERENCE`]. `NoMemory` comes where there is
-/// no memory for the values on the way. In A 2, R of the empty word and 121 is `-1+2q-2q^2+q^3`.
+/// no memory for the values on the way, and so only where y <= w. In A 2, R of the empty word and 121 is `-1+2q-2q^2+q^3`.
 pub fn r<W: Words>(alloc: Global, words: &W, y: &Word, w: &Word) -> Result<Poly, RFault>
     requires letters_y { IsWord (W.matrix words.now).rank y.now.items }
     requires letters_w { IsWord (W.matrix words.now).rank w.now.items }
@@ -34,6 +34,7 @@ pub fn r<W: Words>(alloc: Global, words: &W, y: &Word, w: &Word) -> Result<Poly,
         → coefficient p k ≡ r_polynomial (integer_matrix (W.matrix words.now)) y.now.items w.now.items k) }
     ensures normal { IfOk result IsPolynomial }
     ensures deep { (d : ℕ) → (result ≡ Err (RFault.Deep d)) ↔ IsDeep (integer_matrix (W.matrix words.now)) y.now.items w.now.items d }
+    ensures outside { ¬ IsBelow (integer_matrix (W.matrix words.now)) y.now.items w.now.items → IsOk result }
 {
     let _rank = words.matrix().rank();
     if !words.below(y, w) {

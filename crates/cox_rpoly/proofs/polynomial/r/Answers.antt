@@ -19,7 +19,7 @@ returns-then-not-below-clause-value g c =
     in let p : IsAdmissible A = IsAdmissible-integer_matrix (g.W.Words.matrix c.args.words.now)
     (rw c.matrix.ensures at c.rank-rank.ensures.matrix)
     in λ k.
-    rw c.in_ok-zero.ensures
+    rw c.in_ok-zero.ensures.zero
     (sym (r_polynomial-not_below A p c.args.y.now.items c.args.w.now.items (λ b. false≢true (c.if-not-below.ensures.1 b)) k))
 
 pub overflow_sub-difference : goal.overflow_sub-difference
