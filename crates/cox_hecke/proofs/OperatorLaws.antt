@@ -15,7 +15,7 @@ use Rattle.cox_reflect.proofs.Elements.{same-sym, same-reverse}
 use Rattle.cox_reflect.proofs.Search.{word_length-equal, word_length-length}
 use Rattle.cox_base.specs.Length.{word_length}
 use Rattle.cox_reflect.proofs.Lengths.{IsReduced-reverse, IsReduced-tail, empty_same}
-use Rattle.cox_poly.specs.Coefficients.{Coefficients, zero_polynomial, plus, times_q, times_q_less_one}
+use Rattle.cox_poly.specs.Coefficients.{Coefficients, zero_polynomial, one_polynomial, plus, times_q, times_q_less_one}
 use Rattle.cox_rpoly.specs.InverseOperators.{shortens_left, left_inverse, left_inverse_word, unit}
 use Rattle.cox_rpoly.proofs.Expansion.{unit-one, unit-other}
 use Rattle.cox_hecke.specs.Family.{Family, RespectsElements}
@@ -134,6 +134,24 @@ module _ (A : IntegerMatrix) (g : IsAdmissible A) where
   pub left_word-basis : (u : List ℕ) → IsReduced A u → left_word A u (basis A []) ≡ basis A u
   left_word-basis [] c = refl
   left_word-basis (s ∷ u) c = ap (left A s) (left_word-basis u (IsReduced-tail A g s u c)) ∙ left-basis s u c
+
+  is_same-reverse : (x y : List ℕ) → is_same A (reverse x) (reverse y) ≡ is_same A x y
+  is_same-reverse x y = ⊎_elim (λ (e : SameElement A x y). same-is_same A g (same-reverse A g e) ∙ sym (same-is_same A g e))
+      (λ (n : SameElement A x y → ⊥).
+      not_same-is_same A g (reverse x) (reverse y) (λ e. n (rw (sym (reverse-reverse x), sym (reverse-reverse y)) (same-reverse A g e)))
+      ∙ sym (not_same-is_same A g x y n))
+      (same_or_not A g x y)
+
+  basis-reverse : (w : List ℕ) → at_inverses (basis A (reverse w)) ≡ basis A w
+  basis-reverse w = λ i x. (if is_same-reverse w x i then one_polynomial else zero_polynomial)
+
+  pub right_word-basis : (u : List ℕ) → IsReduced A u → right_word A u (basis A []) ≡ basis A u
+  right_word-basis u c =
+      right_word-along u (basis A [])
+      ∙ ap at_inverses
+      (ap (left_along A true u) (basis-reverse []) ∙ left_along-word A u (basis A [])
+      ∙ left_word-basis (reverse u) (IsReduced-reverse A g u c))
+      ∙ basis-reverse u
 
   pub unit-basis : unit A ≡ basis A []
   unit-basis = λ i x. at x i

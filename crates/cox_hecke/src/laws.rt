@@ -14,6 +14,7 @@ ghost use Rattle.cox_base.specs.Descents.{IsLeftDescent, IsRightDescent};
 ghost use Rattle.cox_base.specs.Bruhat.{IsBelow};
 ghost use Rattle.cox_base.specs.SortedList.{IsListOf};
 ghost use Rattle.cox_base.specs.Interval.{IsBetween};
+ghost use Rattle.cox_reflect.specs.LeastDescent.{IsLeastLeftDescent};
 ghost use Rattle.cox_poly.specs.Coefficients.{Coefficients, plus, times_q, times_q_less_one};
 ghost use Rattle.cox_poly.specs.Products.{flip};
 ghost use Rattle.cox_poly.specs.Multiples.{minus};
@@ -60,7 +61,8 @@ pub fn respect()
 {}
 
 /// The product of the operators along a reduced word depends on the word's element alone. For a reduced word of w the product of the T(s)
-/// is T(w), and the product of the q T(s)^-1 is the sum of the (-1)^(l(w)-l(x)) R(x,w) T(x): R is defined by that of the normal form.
+/// is T(w), from the left and from the right, and the product of the q T(s)^-1 is the sum of the (-1)^(l(w)-l(x)) R(x,w) T(x): R is
+/// defined by that of the normal form.
 pub fn words()
     ensures left { (A : IntegerMatrix) → IsAdmissible A → (u v : List ℕ) (h : Family) → IsReduced A u → IsReduced A v
         → SameElement A u v → RespectsElements A h → (x : List ℕ) (k : ℕ) → left_word A u h x k ≡ left_word A v h x k }
@@ -70,6 +72,8 @@ pub fn words()
         → SameElement A u v → RespectsElements A h → (x : List ℕ) (k : ℕ) → left_inverse_word A u h x k ≡ left_inverse_word A v h x k }
     ensures basis { (A : IntegerMatrix) → IsAdmissible A → (u : List ℕ) → IsReduced A u
         → (x : List ℕ) (k : ℕ) → left_word A u (basis A []) x k ≡ basis A u x k }
+    ensures right_basis { (A : IntegerMatrix) → IsAdmissible A → (u : List ℕ) → IsReduced A u
+        → (x : List ℕ) (k : ℕ) → right_word A u (basis A []) x k ≡ basis A u x k }
     ensures inverse_basis { (A : IntegerMatrix) → IsAdmissible A → (u : List ℕ) → IsReduced A u → (x : List ℕ) (k : ℕ)
         → left_inverse_word A u (basis A []) x k ≡ times_sign (length u - word_length A x) (r_polynomial A x u) k }
 {}
@@ -127,12 +131,14 @@ pub fn rows()
         → (k : ℕ) → flip (word_length A w - word_length A x) (p x) k ≡ bar_sum A words p x k }
 {}
 
-/// There is exactly one P(x,w). It depends on the elements alone, and is 0 unless x <= w. P(sx,w) = P(x,w) for each left descent s of w,
-/// P(xs,w) = P(x,w) for each right descent, and P(x,w) = P(x^-1,w^-1).
+/// There is exactly one P(x,w): what every row of w has at x. It depends on the elements alone, and is 0 unless x <= w. P(sx,w) = P(x,w) for
+/// each left descent s of w, P(xs,w) = P(x,w) for each right descent, and P(x,w) = P(x^-1,w^-1).
 pub fn polynomials()
     ensures exists { (A : IntegerMatrix) → IsAdmissible A → (x w : List ℕ) → (f : Coefficients) × IsKazhdanLusztig A x w f }
     ensures unique { (A : IntegerMatrix) → IsAdmissible A → (x w : List ℕ) (f h : Coefficients) → IsKazhdanLusztig A x w f
         → IsKazhdanLusztig A x w h → (k : ℕ) → f k ≡ h k }
+    ensures row { (A : IntegerMatrix) → IsAdmissible A → (w : List ℕ) (p : Family) → IsRow A w p → (x : List ℕ)
+        → IsKazhdanLusztig A x w (p x) }
     ensures elements { (A : IntegerMatrix) → IsAdmissible A → (x y v w : List ℕ) (f : Coefficients) → SameElement A x y → SameElement A v w
         → IsKazhdanLusztig A x v f → IsKazhdanLusztig A y w f }
     ensures outside { (A : IntegerMatrix) → IsAdmissible A → (x w : List ℕ) (f : Coefficients) → ¬ IsBelow A x w → IsKazhdanLusztig A x w f
@@ -176,8 +182,13 @@ pub fn recursion()
         → (f : Family) × IsStepFamily side A s w f }
 {}
 
-/// Need(w) is a set of elements, and it has what each of its members needs.
+/// Need(w) is a set of elements: w, what the step to w by its least left descent starts from, and all that corrects this step. It has what
+/// each of its members needs.
 pub fn needs()
+    ensures itself { (A : IntegerMatrix) → IsAdmissible A → (w : List ℕ) → IsNeeded A w w }
+    ensures shorter { (A : IntegerMatrix) → IsAdmissible A → (w : List ℕ) (s : ℕ) → IsLeastLeftDescent A w s → IsNeeded A w (s ∷ w) }
+    ensures enough { (A : IntegerMatrix) → IsAdmissible A → (w : List ℕ) (s : ℕ) → IsLeastLeftDescent A w s
+        → (list : List Correction) → AreCorrections Left A s (s ∷ w) list → All (λ c. IsNeeded A w c.element) list }
     ensures elements { (A : IntegerMatrix) → IsAdmissible A → (w y z : List ℕ) → SameElement A y z → IsNeeded A w y → IsNeeded A w z }
     ensures transitive { (A : IntegerMatrix) → IsAdmissible A → (w z y : List ℕ) → IsNeeded A w z → IsNeeded A z y → IsNeeded A w y }
 {}

@@ -1,4 +1,5 @@
 -- Each clause is a lemma on P(x,w).
+use Rattle.std.proofs.Common.{refl}
 use Rattle.cox_hecke.proofs.PolynomialValues.{kazhdan_lusztig-exists, kazhdan_lusztig-unique, kazhdan_lusztig-same, kazhdan_lusztig-outside}
 use Rattle.cox_hecke.proofs.PolynomialValues.{kazhdan_lusztig-left, kazhdan_lusztig-right, kazhdan_lusztig-reverse}
 use Rattle.cox_hecke.proofs.laws.polynomials.Goals as goal
@@ -8,6 +9,9 @@ returns-clause-exists c = kazhdan_lusztig-exists
 
 pub returns-clause-unique : goal.returns-clause-unique
 returns-clause-unique c = kazhdan_lusztig-unique
+
+pub returns-clause-row : goal.returns-clause-row
+returns-clause-row c = λ A g w p row x. record { row = p; is = row; at = λ k. refl }
 
 pub returns-clause-elements : goal.returns-clause-elements
 returns-clause-elements c = kazhdan_lusztig-same
