@@ -1,6 +1,6 @@
 //! The arguments of a program, as texts.
 
-ghost use Rattle.std.specs.Prelude.{◌≡◌, map, take, IfOk};
+ghost use Rattle.std.specs.Prelude.{◌≡◌, [], map, take, IfOk, IsOk};
 ghost use Rattle.std.specs.String.{string_bytes};
 
 use std::alloc::{AllocError, Global};
@@ -70,9 +70,10 @@ pub fn arguments_of<R: Env>(
     }
 }
 
-/// The texts of arguments: of each one, in order.
+/// The texts of arguments: of each one, in order. An empty list takes no memory, so of no arguments it never fails.
 pub fn texts(alloc: Global, arguments: &[String]) -> Result<Vec<&str>, AllocError>
-    ensures { IfOk result (λ texts. map (λ text. text.now) texts.items ≡ map string_bytes arguments.now) }
+    ensures none { arguments.now ≡ [] → IsOk result }
+    ensures each { IfOk result (λ texts. map (λ text. text.now) texts.items ≡ map string_bytes arguments.now) }
 {
     let mut texts = Vec::new(alloc);
     for argument in arguments {

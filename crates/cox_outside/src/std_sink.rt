@@ -1,11 +1,11 @@
 //! A sink over one of std's writers.
 
-ghost use Rattle.std.specs.Prelude.{◌≡◌, ◌<◌, length, take, IfSome};
+ghost use Rattle.std.specs.Prelude.{◌≡◌, ◌<◌, IfOk, IfSome, Ok, OnErr, length, take};
 ghost use Rattle.cox_outside.specs.SinkWrite.{TookFits, took_count, took_failed};
 ghost use Rattle.cox_outside.specs.Outlet.{Writes, SinkCause};
 
 use crate::sink::{Sink, Took};
-use std::io::Write;
+use std::io::{self, Write};
 
 /// A sink over a writer, as standard output. It tells no bytes and no room; its count rises at each
 /// error of the writer, and where the writer takes nothing.
@@ -43,12 +43,22 @@ impl<W: Write> Sink for StdSink<W> {
         ensures full { result ≡ Took.Failed → IfSome (std_outlet self.old).room (λ left. left ≡ 0) }
         ensures cause { SinkCause (std_outlet self.old) (std_outlet self.new) (took_failed result) }
     {
-        match self.inner.write(bytes) {
-            Ok(count) if count > 0 => Took::Bytes(count),
-            Ok(_) | Err(_) => {
-                self.faults = self.faults.saturating_add(1);
-                Took::Failed
-            }
+        let took = took_by(self.inner.write(bytes));
+        if took == Took::Failed {
+            self.faults = self.faults.saturating_add(1);
         }
+        took
+    }
+}
+
+/// What a write took, by the writer's answer: so many bytes where it took some, and a failure where it took none or there is an error.
+fn took_by(answer: io::Result<usize>) -> Took
+    ensures bytes { IfOk answer (λ count. 0 < count → result ≡ Took.Bytes count) }
+    ensures nothing { answer ≡ Ok 0 → result ≡ Took.Failed }
+    ensures failed { OnErr answer (result ≡ Took.Failed) }
+{
+    match answer {
+        Ok(count) if count > 0 => Took::Bytes(count),
+        Ok(_) | Err(_) => Took::Failed,
     }
 }

@@ -1,12 +1,12 @@
 //! A source over one of std's readers.
 
-ghost use Rattle.std.specs.Prelude.{◌≡◌, ◌<◌, length};
+ghost use Rattle.std.specs.Prelude.{◌≡◌, ◌<◌, IfOk, Ok, OnErr, length};
 ghost use Rattle.std.specs.Io.KnownBytes.{prepend_known, IsAtEnd};
 ghost use Rattle.cox_outside.specs.SourceRead.{GotFits, got_bytes, got_failed};
 ghost use Rattle.cox_outside.specs.Supply.{SourceCause};
 
 use crate::source::{Got, Source};
-use std::io::Read;
+use std::io::{self, Read};
 
 /// A source over a reader, as standard input. It tells no bytes and is not sure; its count rises at
 /// each error of the reader, also at a read that was interrupted.
@@ -44,13 +44,23 @@ impl<R: Read> Source for StdSource<R> {
         ensures end { result ≡ Got.End → IsAtEnd (std_supply self.old).left }
         ensures cause { SourceCause (std_supply self.old) (std_supply self.new) (got_failed result) }
     {
-        match self.inner.read(into) {
-            Ok(0) => Got::End,
-            Ok(count) => Got::Bytes(count),
-            Err(_) => {
-                self.faults = self.faults.saturating_add(1);
-                Got::Failed
-            }
+        let got = got_by(self.inner.read(into));
+        if got == Got::Failed {
+            self.faults = self.faults.saturating_add(1);
         }
+        got
+    }
+}
+
+/// What a read gave, by the reader's answer: the end where there is no byte, and a failure only where there is an error.
+fn got_by(answer: io::Result<usize>) -> Got
+    ensures end { answer ≡ Ok 0 → result ≡ Got.End }
+    ensures bytes { IfOk answer (λ count. 0 < count → result ≡ Got.Bytes count) }
+    ensures failed { OnErr answer (result ≡ Got.Failed) }
+{
+    match answer {
+        Ok(0) => Got::End,
+        Ok(count) => Got::Bytes(count),
+        Err(_) => Got::Failed,
     }
 }
