@@ -10,9 +10,9 @@
 //! - its greatest number and its default in `options`, and a field of `Options` with its range
 //! - its line in the table, its rule in `definition::command`, and its line and clauses in `reading`
 //! - its default in `laws::name_alone_gives_defaults`
-//! - in proofs, a line at each step of `definition::command`, an answer to its clause of `reading::read` and its number in
-//!   what `options_in` requires there, and a line in each of the four lemmas of `OneNumber`, where the definition is
-//!   computed for each option in turn
+//! - in proofs, a line at each step of `definition::command`, two answers of `reading::read`, to its clause and to what
+//!   `options_by` requires, and a line in each of the four lemmas of `OneNumber`, where the definition is computed for
+//!   each option in turn
 //!
 //! The other laws and lemmas are of all options of the table. `proofs/Table.antt` computes what they ask of it: no two
 //! options have one name, none is called `help` or `version`, and each default is in its range.

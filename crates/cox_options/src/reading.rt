@@ -1,5 +1,5 @@
 //! Arguments, and the options that they give.
-ghost use Rattle.std.specs.Prelude.{◌≡◌, ◌≢◌, Err, IfOk, OnOk, Some, codes, map, option_map, pos};
+ghost use Rattle.std.specs.Prelude.{◌≡◌, ◌≢◌, Err, IfOk, IsErrAnd, IsOkAnd, OnOk, Some, codes, map, option_map, pos};
 ghost use Rattle.clap.specs.Words.{found_of, kind_of, one_text};
 ghost use Rattle.clap.specs.declared.error.kind.ErrorKind.TheVariants.{OutOfMemory};
 ghost use Rattle.cox_options.specs.Arguments.{IsTaken, IsUsage, decimal_value, given_number};
@@ -44,10 +44,7 @@ pub fn read(alloc: Global, words: &[&str]) -> Result<Options, OptionFault>
     let Ok(command) = command(alloc) else {
         return Err(OptionFault::NoMemory);
     };
-    match command.try_get_matches_from(words) {
-        Ok(matches) => Ok(options_in(&matches)),
-        Err(error) => Err(fault_of(&error)),
-    }
+    options_by(command.try_get_matches_from(words))
 }
 
 /// Arguments that give no options, to stand for those that are no text.
@@ -55,6 +52,29 @@ pub fn wrong_arguments() -> [&'static str; 2]
     ensures { IsUsage (map (λ argument. argument.now) result) }
 {
     ["coxeter", "?"]
+}
+
+/// What the answer of a parse gives: the options by what it found, or the fault by its error. Memory is out only where the parse says so.
+fn options_by(answer: Result<ArgMatches<'_>, clap::Error>) -> Result<Options, OptionFault>
+    requires context { IfOk answer (λ matches. HasNumber (found_of matches) (codes "context") MAX_CONTEXT) }
+    requires roots { IfOk answer (λ matches. HasNumber (found_of matches) (codes "roots") MAX_ROOTS) }
+    requires coef { IfOk answer (λ matches. HasNumber (found_of matches) (codes "coef") MAX_COEF) }
+    requires workers { IfOk answer (λ matches. HasNumber (found_of matches) (codes "workers") MAX_WORKERS) }
+    ensures context { IfOk result (λ options. IsOkAnd answer.entry (λ matches.
+        option_map decimal_value (one_text (found_of matches) (codes "context")) ≡ Some options.context)) }
+    ensures roots { IfOk result (λ options. IsOkAnd answer.entry (λ matches.
+        option_map decimal_value (one_text (found_of matches) (codes "roots")) ≡ Some options.roots)) }
+    ensures coef { IfOk result (λ options. IsOkAnd answer.entry (λ matches.
+        option_map pos (option_map decimal_value (one_text (found_of matches) (codes "coef"))) ≡ Some options.coef)) }
+    ensures workers { IfOk result (λ options. IsOkAnd answer.entry (λ matches.
+        option_map decimal_value (one_text (found_of matches) (codes "workers")) ≡ Some options.workers)) }
+    ensures usage { result ≡ Err Usage → IsErrAnd answer.entry (λ error. kind_of error ≢ OutOfMemory) }
+    ensures memory { result ≡ Err NoMemory → IsErrAnd answer.entry (λ error. kind_of error ≡ OutOfMemory) }
+{
+    match answer {
+        Ok(matches) => Ok(options_in(&matches)),
+        Err(error) => Err(fault_of(&error)),
+    }
 }
 
 /// The options by what a parse of the command found.
