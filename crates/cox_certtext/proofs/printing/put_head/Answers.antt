@@ -17,4 +17,4 @@ returns-in_err-put_top_line c = Puts-second_of_three _ (matrix_line c.args.g.now
 pub returns : goal.returns
 returns c = Puts-third_of_three _ (matrix_line c.args.g.now)
     (next_top_line c.args.g.now.rank c.args.top.now.items) (codes "\nrows ") _ _ _ _ c.in_ok-put_matrix_line.ensures
-    (rw c.rank.ensures.rank at (c.in_ok-put_top_line.ensures {u = tt})) c.put_text.ensures
+    (rw c.rank.ensures.rank at (c.in_ok-put_top_line.ensures {u = tt})) c.put_text.ensures.text

@@ -14,10 +14,10 @@ pub returns-in_err-put_text : goal.returns-in_err-put_text
 returns-in_err-put_text c =
     let element = codes " " ++ element_text c.args.rank c.args.y.now.items in
     Puts-second_of_three _ element (codes ":") (signed_decimal c.args.value) _ _ _ c.in_ok-put_other_element.ensures
-    (search rules) c.in_err-put_text.ensures
+    (search rules) c.in_err-put_text.ensures.text
 
 pub returns : goal.returns
 returns c =
     let element = codes " " ++ element_text c.args.rank c.args.y.now.items in
     Puts-third_of_three _ element (codes ":") (signed_decimal c.args.value) _ _ _ _ c.in_ok-put_other_element.ensures
-    c.in_ok-put_text.ensures (search rules)
+    c.in_ok-put_text.ensures.text (search rules)

@@ -14,10 +14,10 @@ pub returns-in_err-put_text : goal.returns-in_err-put_text
 returns-in_err-put_text c =
     let element = element_text c.args.rank c.args.x.now.items in
     let label = set_text c.args.rank c.args.label.now.items in
-    Puts-second_of_three _ element (codes " ") label _ _ _ c.in_ok-put_element.ensures (search rules) c.in_err-put_text.ensures
+    Puts-second_of_three _ element (codes " ") label _ _ _ c.in_ok-put_element.ensures (search rules) c.in_err-put_text.ensures.text
 
 pub returns : goal.returns
 returns c =
     let element = element_text c.args.rank c.args.x.now.items in
     let label = set_text c.args.rank c.args.label.now.items in
-    Puts-third_of_three _ element (codes " ") label _ _ _ _ c.in_ok-put_element.ensures c.in_ok-put_text.ensures c.put_set.ensures
+    Puts-third_of_three _ element (codes " ") label _ _ _ _ c.in_ok-put_element.ensures c.in_ok-put_text.ensures.text c.put_set.ensures

@@ -14,10 +14,10 @@ pub returns-in_err-put_text : goal.returns-in_err-put_text
 returns-in_err-put_text c =
     let element = element_text c.args.rank c.args.x.now.items in
     Puts-second_of_three _ (10 ∷ element) (codes ":") (polynomial_text c.args.p.now) _ _ _ c.in_ok-put_next_element.ensures
-    (search rules) c.in_err-put_text.ensures
+    (search rules) c.in_err-put_text.ensures.text
 
 pub returns : goal.returns
 returns c =
     let element = element_text c.args.rank c.args.x.now.items in
     Puts-third_of_three _ (10 ∷ element) (codes ":") (polynomial_text c.args.p.now) _ _ _ _ c.in_ok-put_next_element.ensures
-    c.in_ok-put_text.ensures c.put_text-2.ensures
+    c.in_ok-put_text.ensures.text c.put_text-2.ensures.text

@@ -6,4 +6,4 @@ use Rattle.cox_print.proofs.items.put_other_element.Goals as goal
 
 pub returns-in_err-put_text : goal.returns-in_err-put_text
 returns-in_err-put_text c =
-    Puts-first _ (codes " ") (element_text c.args.rank c.args.x.now.items) _ _ (search rules) c.in_err-put_text.ensures
+    Puts-first _ (codes " ") (element_text c.args.rank c.args.x.now.items) _ _ (search rules) c.in_err-put_text.ensures.text

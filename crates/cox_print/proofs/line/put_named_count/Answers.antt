@@ -5,14 +5,14 @@ use Rattle.cox_print.proofs.line.put_named_count.Goals as goal
 
 pub returns-in_err-put_text : goal.returns-in_err-put_text
 returns-in_err-put_text c =
-    Puts-first_of_three _ c.args.name.now (codes " ") (decimal c.args.n) _ _ (search rules) c.in_err-put_text.ensures
+    Puts-first_of_three _ c.args.name.now (codes " ") (decimal c.args.n) _ _ (search rules) c.in_err-put_text.ensures.text
 
 pub returns-in_err-put_text-2 : goal.returns-in_err-put_text-2
 returns-in_err-put_text-2 c =
-    Puts-second_of_three _ c.args.name.now (codes " ") (decimal c.args.n) _ _ _ c.in_ok-put_text.ensures (search rules)
-    c.in_err-put_text-2.ensures
+    Puts-second_of_three _ c.args.name.now (codes " ") (decimal c.args.n) _ _ _ c.in_ok-put_text.ensures.text (search rules)
+    c.in_err-put_text-2.ensures.text
 
 pub returns : goal.returns
 returns c =
-    Puts-third_of_three _ c.args.name.now (codes " ") (decimal c.args.n) _ _ _ _ c.in_ok-put_text.ensures c.in_ok-put_text-2.ensures
+    Puts-third_of_three _ c.args.name.now (codes " ") (decimal c.args.n) _ _ _ _ c.in_ok-put_text.ensures.text c.in_ok-put_text-2.ensures.text
     c.put_natural.ensures

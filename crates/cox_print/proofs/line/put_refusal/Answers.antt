@@ -5,4 +5,4 @@ use Rattle.cox_poly.proofs.Behind.{Puts-first}
 use Rattle.cox_print.proofs.line.put_refusal.Goals as goal
 
 pub returns-in_err-put_text : goal.returns-in_err-put_text
-returns-in_err-put_text c = Puts-first _ (codes "error ") (decimal c.args.n) _ _ (search rules) c.in_err-put_text.ensures
+returns-in_err-put_text c = Puts-first _ (codes "error ") (decimal c.args.n) _ _ (search rules) c.in_err-put_text.ensures.text

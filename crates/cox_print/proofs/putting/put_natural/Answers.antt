@@ -10,4 +10,4 @@ cast-digits : (n : ℕ) → n < 2 ^ 64 → signed_decimal (to_z w128 n) ≡ deci
 cast-digits n small = ap signed_decimal (to_z_pos w128 n (omega (arith, small)))
 
 pub returns : goal.returns
-returns c = let digits = cast-digits c.args.n (omega arith) in rw digits at c.put_number.ensures
+returns c = let digits = cast-digits c.args.n (omega arith) in rw digits at c.put_number.ensures.text

@@ -24,7 +24,7 @@ returns-in-Ok-clause-puts c =
     let g = IsAdmissible-integer_matrix c.args.table.now (rw c.group.ensures at c.rank-rank.ensures.matrix) in
     let text = is-r_text A g c.args.y.now.items c.args.w.now.items _ value.value in
     rw c.unrefused.ensures
-    (PutsUnless-put _ _ _ _ _ (far-allowed A c.args.y.now.items c.args.w.now.items near) (_, text, c.put_text.ensures))
+    (PutsUnless-put _ _ _ _ _ (far-allowed A c.args.y.now.items c.args.w.now.items near) (_, text, c.put_text.ensures.text))
 
 -- ---- elements that are far apart
 

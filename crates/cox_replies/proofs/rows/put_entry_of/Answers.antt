@@ -11,14 +11,14 @@ returns-in-Some c = λ w is.
     let A = integer_matrix c.args.table.now in
     let admissible = IsAdmissible-integer_matrix c.args.table.now c.requires.group in
     let text = pol-text A admissible c.args.y.now.items w _ _ is (c.in-Some.ensures {u = tt}).value in
-    rw c.in-Pol.is (_, text, c.put_text.ensures)
+    rw c.in-Pol.is (_, text, c.put_text.ensures.text)
 
 pub returns-in-None : goal.returns-in-None
 returns-in-None c = λ w is.
     let A = integer_matrix c.args.table.now in
     let admissible = IsAdmissible-integer_matrix c.args.table.now c.requires.group in
     let text = pol-zero A admissible c.args.y.now.items w _ is (c.in-None.ensures {u = tt}).none in
-    rw c.in-Pol.is (_, text, c.put_text-in-None.ensures)
+    rw c.in-Pol.is (_, text, c.put_text-in-None.ensures.text)
 
 pub returns-in-Mu : goal.returns-in-Mu
 returns-in-Mu c = λ w is.

@@ -69,7 +69,7 @@ returns-in-Some c =
     c.args.y.now.items c.args.w.now.items _ _ (bottom at) (top at) _ _ _ _ c.requires.free
     (rw (matrix at, to_z-of_z w64 c.inverse_limit-limit.result fits, limit at) at
     c.polynomial-polynomial.ensures.within)
-    (rw (matrix at) at c.polynomial-polynomial.ensures.value) c.put_text.ensures)
+    (rw (matrix at) at c.polynomial-polynomial.ensures.value) c.put_text.ensures.text)
 
 -- ---- summed up
 
@@ -109,7 +109,7 @@ returns-in-Ok c =
     (admissible at) c.args.y.now.items c.args.w.now.items _ _ (bottom at) (top at) _ _ _ _ c.requires.free
     (rw (matrix at, to_z-of_z w64 c.inverse_limit-limit.result fits, limit at) at told.within)
     (rw (matrix at) at (c.polynomial.ensures c.context-context.result.now c.args.ends.low c.args.ends.high _ told.row))
-    c.put_text-in-Ok.ensures)
+    c.put_text-in-Ok.ensures.text)
 
 pub returns-in-Err : goal.returns-in-Err
 returns-in-Err c =

@@ -33,7 +33,7 @@ returns-in-Apart c =
     let w = c.args.w.now.items in
     let has : HasBetween c.args.self.now y w Apart = rw c.in-Apart.is at c.requires in
     rw c.unrefused.ensures (PutsUnless-put _ _ _ _ _ (inverse-none limits A y w has.1 has.0)
-    (_, invpol-zero A (IsAdmissible-integer_matrix c.args.self.now.table c.rank.ensures.matrix) y w has.0, c.put_text.ensures))
+    (_, invpol-zero A (IsAdmissible-integer_matrix c.args.self.now.table c.rank.ensures.matrix) y w has.0, c.put_text.ensures.text))
 
 pub put_inverse-requires : goal.put_inverse-requires
 put_inverse-requires c =
