@@ -1,5 +1,5 @@
 //! The row of the identity.
-ghost use Rattle.std.specs.Prelude.{◌≡◌, ◌≤ℤ◌, pos, ℤ, IfOk, IfErr};
+ghost use Rattle.std.specs.Prelude.{◌≡◌, ◌≤ℤ◌, pos, ℤ, Err, IfOk, IfErr};
 ghost use Rattle.cox_base.specs.IntegerMatrix.{integer_matrix};
 ghost use Rattle.cox_row.specs.RowOf.{IsRowAt};
 ghost use Rattle.cox_row.specs.Within.{IsRowWithin};
@@ -16,6 +16,7 @@ pub fn identity_row_within(alloc: Global, ctx: &Context, limit: i64) -> Result<R
     requires limit { pos 0 ≤ℤ limit }
     ensures row { IfOk result (IsRowAt ctx.now 0) }
     ensures within { IfOk result (IsRowWithin limit) }
+    ensures refused { limit ≡ pos 0 → result ≡ Err (StepFault.Coefficient 0 0 0 (pos 1)) }
     ensures fault { IfErr result (IsFault (integer_matrix ctx.now.matrix) ctx.now.members limit (λ w. w ≡ 0)) }
 {
     let _len = ctx.len();
