@@ -1,5 +1,5 @@
 //! Inverse rows, and how one is made: from w down, each polynomial from those behind it.
-ghost use Rattle.std.specs.Prelude.{◌≡◌, ◌≢◌, ℕ, ◌<◌, ◌≤◌, ℤ, pos, ◌≤ℤ◌, ◌∷◌, [], length, Contains, IfOk, IfErr, OnOk};
+ghost use Rattle.std.specs.Prelude.{◌≡◌, ◌≢◌, ℕ, ◌<◌, ◌≤◌, ℤ, pos, ◌≤ℤ◌, ◌∷◌, [], length, Contains, Err, IfOk, IfErr, OnOk};
 ghost use Rattle.cox_base.specs.IntegerMatrix.{integer_matrix};
 ghost use Rattle.cox_base.specs.Bruhat.{IsBelow};
 ghost use Rattle.cox_poly.specs.Polynomial.{coefficient, IsPolynomial, SameCoefficients};
@@ -139,6 +139,7 @@ fn top_polynomial(alloc: Global, w: u32, limit: i64) -> Result<Poly, InverseFaul
     requires { pos 0 ≤ℤ limit }
     ensures one { IfOk result (λ p. p ≡ pos 1 ∷ []) }
     ensures within { OnOk result (AllWithin limit (pos 1 ∷ [])) }
+    ensures refused { limit ≡ pos 0 → result ≡ Err (InverseFault.Inverse w 0 (pos 1)) }
     ensures fault { IfErr result (IsSumFault w limit (pos 1 ∷ [])) }
 {
     if limit == 0 {
