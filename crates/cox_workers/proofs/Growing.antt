@@ -1,10 +1,13 @@
 -- What a seat has published, voided and seen: step after step, and when it met another.
 use Rattle.std.proofs.Common.{◌≡◌, ◌⊎◌, inl, inr, ⊎_elim, ℕ, ◌+◌, ◌<◌, ◌||◌, List, length, [], ◌∷◌, ◌++◌, true, refl, sym, ap, ◌∙◌, arith}
-use Rattle.std.proofs.lemmas.Bool.{or_cases, or_left, or_right}
+use Rattle.std.specs.Prelude.{◌==◌, Option, IfSome}
+use Rattle.std.proofs.lemmas.Bool.{or_cases, or_left, or_right, eq-eqb}
+use Rattle.std.proofs.lemmas.Option.{IfSome_then}
 use Rattle.cox_context.specs.Closed.{Elements}
 use Rattle.cox_claims.specs.declared.seat.Seat.{Seat}
-use Rattle.cox_claims.specs.Knowledge.{has_published, has_voided, parted, told, joined, SeesAll}
-use Rattle.cox_claims.specs.Seats.{view_of, HasSeen, HasSeenVoid}
+use Rattle.cox_fill_core.specs.declared.event.RowState.{RowState}
+use Rattle.cox_claims.specs.Knowledge.{saw_claimed, has_published, has_voided, looked, parted, told, joined, IsKnown, SeesAll}
+use Rattle.cox_claims.specs.Seats.{view_of, HasSeen, HasSeenVoid, HasSeenClaimed}
 use Rattle.cox_row.specs.Rising.{number_at}
 use Rattle.cox_claims.proofs.RowTests.{among_either}
 use Rattle.cox_claims.specs.Rule.{how_many}
@@ -19,6 +22,31 @@ use Rattle.cox_claims.proofs.Views.{sees-refl, sees-trans}
 pub ended-still : (a b : Seat) → SeesAll (view_of a) (view_of b) → (i : ℕ) → HasSeenEnd a i → HasSeenEnd b i
 ended-still a b seen i end =
     ⊎_elim (λ (h : HasSeen a i). inl (seen.published i h)) (λ (h : HasSeenVoid a i). inr (seen.void i h)) end
+
+-- ---- rows that were not seen so
+
+-- a row that is Claimed is none of them
+pub fresh-claimed : (a : Seat) (i : ℕ) → IsKnown (view_of a) i RowState.Claimed → ¬ HasSeenEnd a i
+fresh-claimed a i known end = ⊎_elim (λ (h : HasSeen a i). let no = known.published h in cc)
+    (λ (h : HasSeenVoid a i). let no = known.void h in cc) end
+
+-- what was not seen so later was not seen so before
+pub fresh-before : (a b : Seat) → SeesAll (view_of a) (view_of b) → (found : Option ℕ) → IfSome found (λ i. ¬ HasSeenEnd b i)
+    → IfSome found (λ i. ¬ HasSeenEnd a i)
+fresh-before a b seen found fresh = IfSome_then found fresh (λ i no end. no (ended-still a b seen i end))
+
+-- ---- rows that were seen Claimed
+
+-- a look found it so
+pub claimed-looked : (a b : Seat) (i : ℕ) → view_of b ≡ looked (view_of a) i RowState.Claimed → HasSeenClaimed b i
+claimed-looked a b i after = ap (λ v. saw_claimed v i) after ∙ or_left (i == i) (saw_claimed (view_of a) i) (eq-eqb i i refl)
+
+-- and it is seen so from then on
+pub claimed-still : (a b : Seat) → SeesAll (view_of a) (view_of b) → (found : Option ℕ) → IfSome found (HasSeenClaimed a)
+    → IfSome found (HasSeenClaimed b)
+claimed-still a b seen found old = IfSome_then found old seen.claimed
+
+-- ---- what grows
 
 pub grown-refl : {e : Elements} {wanted : List ℕ} {a : Seat} → IsSeatGrown e wanted a a
 grown-refl {e} {wanted} {a} = record {

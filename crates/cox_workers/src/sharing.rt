@@ -1,6 +1,6 @@
 //! Rows by several workers: each makes rows that they need and that nobody has claimed.
 ghost use Rattle.std.specs.Prelude.{◌≡◌, ℕ, ◌<◌, ◌+◌, ◌^◌, ◌%◌, length, IfSome};
-ghost use Rattle.cox_claims.specs.Seats.{HoldsNothing};
+ghost use Rattle.cox_claims.specs.Seats.{HoldsNothing, HasSeenClaimed};
 ghost use Rattle.cox_row.specs.Rising.{number_at};
 
 use crate::worker_context::WorkerContext;
@@ -15,10 +15,12 @@ use std::thread::Threads;
 
 impl<'a> WorkerContext<'a> {
     ghost use Rattle.cox_workers.specs.Ready.{IsWorkerReady, IsWorkFor};
+    ghost use Rattle.cox_workers.specs.Filled.{HasSeenEnd};
 
     /// Makes those rows that the row of the member with the number i needs and that no worker has claimed.
     ///
-    /// Gives one that another worker has claimed, if there is one. The caller is to wait for it and then to try again.
+    /// Gives one that another worker has claimed, if there is one. The caller is to wait for it and then to try again. It is none that the
+    /// seat had seen Published or Void before.
     #[cycle(supply)]
     fn supply<R: Threads + Wait + Sync, G: Gate>(
         &self,
@@ -33,6 +35,8 @@ impl<'a> WorkerContext<'a> {
         requires idle { HoldsNothing seat.old }
         ensures work { IsWorkFor self.now i seat.old seat.new scratch.old scratch.new }
         ensures claimed { IfSome result (λ j. j < length self.now.context.now.members) }
+        ensures seen { IfSome result (HasSeenClaimed seat.new) }
+        ensures fresh { IfSome result (λ j. ¬ HasSeenEnd seat.old j) }
     {
         let _len = self.context.len();
         if i == 0 {
@@ -66,7 +70,8 @@ impl<'a> WorkerContext<'a> {
     /// Makes the row of the member with the number u, after those that it needs, if no worker has claimed one of these rows. Where one has,
     /// makes the others that it needs and that are not claimed, as far as it can tell what it needs.
     ///
-    /// Gives one that another worker has claimed, if there is one. The caller is to wait for it and then to try again.
+    /// Gives one that another worker has claimed, if there is one. The caller is to wait for it and then to try again. It is none that the
+    /// seat had seen Published or Void before.
     #[cycle(supply)]
     pub(crate) fn provide<R: Threads + Wait + Sync, G: Gate>(
         &self,
@@ -81,6 +86,8 @@ impl<'a> WorkerContext<'a> {
         requires idle { HoldsNothing seat.old }
         ensures work { IsWorkFor self.now u seat.old seat.new scratch.old scratch.new }
         ensures claimed { IfSome result (λ j. j < length self.now.context.now.members) }
+        ensures seen { IfSome result (HasSeenClaimed seat.new) }
+        ensures fresh { IfSome result (λ j. ¬ HasSeenEnd seat.old j) }
     {
         match self.look(seat, u) {
             RowState::Free => {}

@@ -1,7 +1,10 @@
 -- The worker's steps.
 use Rattle.std.proofs.Common.{rules, Some, arith, ◌∙◌}
 use Rattle.cox_row_symmetry.proofs.LowerMembers.{lower-before}
+use Rattle.cox_claims.specs.Seats.{HasSeenClaimed}
 use Rattle.cox_workers.specs.SeatChanges.{IsNeededAt}
+use Rattle.cox_workers.specs.Filled.{HasSeenEnd}
+use Rattle.cox_workers.proofs.Growing.{claimed-looked, claimed-still, fresh-claimed, fresh-before}
 use Rattle.cox_workers.proofs.Working.{work-trans, work-same, work-again, work-lower, work-needed, work-list, option_or-both}
 use Rattle.cox_workers.proofs.NeedsByNumber.{correction-needed_at, correction-before_at}
 use Rattle.cox_workers.proofs.worker_context.WorkerContext.+supply.Goals as goal
@@ -14,12 +17,28 @@ pub provide-returns-in-Claimed-clause-claimed : goal.provide-returns-in-Claimed-
 provide-returns-in-Claimed-clause-claimed g t c =
     rw c.or.ensures (option_or-both _ c.supply.result (Some c.args.u) c.supply.ensures.claimed c.requires.member)
 
+pub provide-returns-in-Claimed-clause-seen : goal.provide-returns-in-Claimed-clause-seen
+provide-returns-in-Claimed-clause-seen g t c =
+    rw c.or.ensures (option_or-both (HasSeenClaimed c.supply.new.seat) c.supply.result (Some c.args.u) c.supply.ensures.seen
+    (c.supply.ensures.work.kept.seen.claimed c.args.u
+    (claimed-looked c.args.seat.now c.look.new.seat c.args.u c.in-Claimed.ensures.step.after)))
+
+pub provide-returns-in-Claimed-clause-fresh : goal.provide-returns-in-Claimed-clause-fresh
+provide-returns-in-Claimed-clause-fresh g t c =
+    rw c.or.ensures (option_or-both (λ j. ¬ HasSeenEnd c.args.seat.now j) c.supply.result (Some c.args.u)
+    (fresh-before c.args.seat.now c.look.new.seat (c.look.ensures.kept c.args.u).seen c.supply.result c.supply.ensures.fresh)
+    (fresh-claimed c.args.seat.now c.args.u c.in-Claimed.ensures.step.known))
+
 pub provide-returns-in_default-clause-work : goal.provide-returns-in_default-clause-work
 provide-returns-in_default-clause-work g t c = work-same c.requires.ready c.look.ensures.own (c.look.ensures.kept c.args.u)
 
 pub provide-returns-then-is_some-clause-work : goal.provide-returns-then-is_some-clause-work
 provide-returns-then-is_some-clause-work g t c =
     work-trans (work-same c.requires.ready c.look.ensures.own (c.look.ensures.kept c.args.u)) c.supply-claimed.ensures.work
+
+pub provide-returns-then-is_some-clause-fresh : goal.provide-returns-then-is_some-clause-fresh
+provide-returns-then-is_some-clause-fresh g t c =
+    fresh-before c.args.seat.now c.look.new.seat (c.look.ensures.kept c.args.u).seen c.supply-claimed.result c.supply-claimed.ensures.fresh
 
 pub provide-returns-in-Free-look-clause-work : goal.provide-returns-in-Free-look-clause-work
 provide-returns-in-Free-look-clause-work g t c = work-trans (work-again
@@ -31,6 +50,16 @@ pub provide-returns-in-Claimed-look-clause-work : goal.provide-returns-in-Claime
 provide-returns-in-Claimed-look-clause-work g t c = work-again
     (work-trans (work-same c.requires.ready c.look.ensures.own (c.look.ensures.kept c.args.u)) c.supply-claimed.ensures.work)
     c.look-2.ensures.own (c.look-2.ensures.kept c.args.u)
+
+pub provide-returns-in-Claimed-look-clause-seen : goal.provide-returns-in-Claimed-look-clause-seen
+provide-returns-in-Claimed-look-clause-seen g t c =
+    claimed-looked c.supply-claimed.new.seat c.look-2.new.seat c.args.u c.in-Claimed-look.ensures.step.after
+
+pub provide-returns-in-Claimed-look-clause-fresh : goal.provide-returns-in-Claimed-look-clause-fresh
+provide-returns-in-Claimed-look-clause-fresh g t c =
+    let before = (work-trans (work-same c.requires.ready c.look.ensures.own (c.look.ensures.kept c.args.u)) c.supply-claimed.ensures.work).kept
+    in fresh-before c.args.seat.now c.supply-claimed.new.seat before.seen (Some c.args.u)
+    (fresh-claimed c.supply-claimed.new.seat c.args.u c.in-Claimed-look.ensures.step.known)
 
 pub provide-returns-in_default-look-clause-work : goal.provide-returns-in_default-look-clause-work
 provide-returns-in_default-look-clause-work g t c = work-again
@@ -78,6 +107,8 @@ supply-corrections-init g t c =
           c.of-descent.ensures.number c.provide-first.ensures.work)
           (c.take_published.ensures.work c.args.i));
       claimed = tt;
+      seen = tt;
+      fresh = tt;
     }
 
 pub supply-provide-requires : goal.supply-provide-requires
@@ -117,6 +148,13 @@ supply-corrections-preserved g t c =
       work = work-trans c.corrections.invariant.work (work-needed c.len-len.ensures.admissible needed c.provide.ensures.work);
       claimed = rw c.or-claimed.ensures
           (option_or-both _ c.provide.result c.corrections.claimed c.provide.ensures.claimed c.corrections.invariant.claimed);
+      seen = rw c.or-claimed.ensures (option_or-both (HasSeenClaimed c.provide.new.seat) c.provide.result c.corrections.claimed
+          c.provide.ensures.seen
+          (claimed-still c.corrections.seat c.provide.new.seat c.provide.ensures.work.kept.seen c.corrections.claimed
+          c.corrections.invariant.seen));
+      fresh = rw c.or-claimed.ensures (option_or-both (λ j. ¬ HasSeenEnd c.args.seat.now j) c.provide.result c.corrections.claimed
+          (fresh-before c.args.seat.now c.corrections.seat c.corrections.invariant.work.kept.seen c.provide.result c.provide.ensures.fresh)
+          c.corrections.invariant.fresh);
     }
 
 pub supply-returns-clause-work : goal.supply-returns-clause-work
