@@ -1,5 +1,5 @@
 //! The check of a row: its conditions, one by one.
-ghost use Rattle.std.specs.Prelude.{◌≡◌, ℕ, ◌<◌, ◌≤◌, ◌↔◌, IsTrue, length, All, IfOk};
+ghost use Rattle.std.specs.Prelude.{◌≡◌, ℕ, ◌<◌, ◌≤◌, ◌↔◌, IsTrue, length, All, IfOk, OnErr};
 ghost use Rattle.cox_base.specs.IntegerMatrix.{integer_matrix};
 ghost use Rattle.cox_base.specs.Members.{IsInInterval};
 ghost use Rattle.cox_base.specs.SortedList.{IsListOf};
@@ -92,6 +92,8 @@ fn are_turned(ctx: &Context, w: u32, polynomials: &[Poly], sums: &[Sum]) -> bool
 
 /// Whether the polynomials are the row of w, where the members are the elements x <= w.
 ///
+/// Where p(w) is not 1, or the degree of another polynomial is too high, the answer needs no memory.
+///
 /// In A 3 the row of `2132` has 1 + q at `e` and at `2`, and 1 at the other twelve elements. No row is made to find that.
 pub fn is_row(
     alloc: Global,
@@ -105,8 +107,9 @@ pub fn is_row(
     requires small { All IsCheckable polynomials.now }
     requires short { length (word_at ctx.now.members w) ≤ MAX_DIFFERENCE }
     requires few { length ctx.now.members ≤ MAX_LISTED }
-    ensures { IfOk result (λ answer. IsTrue answer
+    ensures row { IfOk result (λ answer. IsTrue answer
         ↔ AreRow (integer_matrix ctx.now.matrix) (word_at ctx.now.members w) ctx.now.members polynomials.now) }
+    ensures bounded { OnErr result (AreBounded ctx.now.members w polynomials.now) }
 {
     let _len = ctx.len();
     if !are_bounded(ctx, w, polynomials) {

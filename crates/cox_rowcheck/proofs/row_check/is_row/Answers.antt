@@ -7,8 +7,8 @@ use Rattle.cox_rowcheck.proofs.IntervalRows.{interval-length, interval-short, ro
 use Rattle.cox_rowcheck.proofs.Decision.{members-balanced, balanced-bounded, balanced-turned}
 use Rattle.cox_rowcheck.proofs.row_check.is_row.Goals as goal
 
-pub returns-then-not-are_bounded : goal.returns-then-not-are_bounded
-returns-then-not-are_bounded c =
+pub returns-then-not-are_bounded-clause-row : goal.returns-then-not-are_bounded-clause-row
+returns-then-not-are_bounded-clause-row c =
     let A : IntegerMatrix = integer_matrix c.args.ctx.now.matrix
     in let g = c.len-len.ensures.admissible
     in let members = c.args.ctx.now.members
@@ -32,8 +32,8 @@ sums_of-requires-clause-short c = λ i l.
       interval-length A g (word_at members c.args.w) members c.requires.interval c.args.w c.requires.w,
     )
 
-pub returns : goal.returns
-returns c =
+pub returns-clause-row : goal.returns-clause-row
+returns-clause-row c =
     let A : IntegerMatrix = integer_matrix c.args.ctx.now.matrix
     in let g = c.len-len.ensures.admissible
     in let members = c.args.ctx.now.members
