@@ -1,5 +1,5 @@
 -- Members of a context that is kept: what is below a member is one, and its interval is no larger than what is kept.
-use Rattle.std.proofs.Common.{ℕ, ◌<◌, ◌≤◌, Bool, List, ◌∷◌, length, filter, Contains, Option, None, Some, arith, ℤ, pos, ◌≤ℤ◌}
+use Rattle.std.proofs.Common.{ℕ, ◌<◌, ◌≤◌, Bool, List, length, filter, Contains, Option, None, Some, arith, ℤ, pos, ◌≤ℤ◌}
 use Rattle.std.specs.Prelude.{IfSome}
 use Rattle.std.proofs.lemmas.List.Sums.{length-filter, count_by-le-length}
 use Rattle.cox_base.specs.IntegerMatrix.{IntegerMatrix, integer_matrix}
@@ -11,9 +11,7 @@ use Rattle.cox_base.specs.Members.{IsInInterval}
 use Rattle.cox_base.specs.SortedList.{HasMoreThan}
 use Rattle.cox_reflect.proofs.Elements.{same-refl, same-sym}
 use Rattle.cox_reflect.proofs.Search.{normal_form-same}
-use Rattle.cox_reflect.proofs.Bruhat.{below-refl, below-same, below-trans, below-descent}
-use Rattle.cox_hecke.specs.Needs.{IsNeeded, itself, shorter, corrected}
-use Rattle.cox_hecke.proofs.Descended.{mu-below}
+use Rattle.cox_reflect.proofs.Bruhat.{below-same, below-trans}
 use Rattle.cox_context.specs.Closed.{IsClosed}
 use Rattle.cox_context.specs.Numbers.{word_at}
 use Rattle.cox_context.specs.Numbering.{IsNumberOf}
@@ -24,34 +22,27 @@ use Rattle.cox_context.proofs.ShortLexLists.{HasMoreThan-few}
 use Rattle.cox_rows.specs.Beyond.{IsBeyond, NeedsBeyond}
 use Rattle.cox_rows.specs.Holding.{Holding}
 use Rattle.cox_rows.proofs.BeyondDecided.{beyond-same}
+use Rattle.cox_rows.proofs.NeedCases.{needed-below}
 use Rattle.cox_answers.specs.Kept.{AreOf}
 use Rattle.cox_replies.specs.Limits.{Limits}
 use Rattle.cox_replies.proofs.RowMembers.{interval-size}
 
-module _ (A : IntegerMatrix) (g : IsAdmissible A) where
-  -- what the row of w needs is below w
-  needed-below : (w z : List ℕ) → IsNeeded A w z → IsBelow A z w
-  needed-below w z (itself e) = below-refl A g e
-  needed-below w v (shorter {z = z} {s = s} n d e) =
-      below-trans A g (below-same A g (same-sym A g e) (same-refl A g z) (below-descent A g z s d.descent)) (needed-below w z n)
-  needed-below w v (corrected {z = z} {s = s} {m = m} n d c) =
-      below-trans A g (mu-below A g v (s ∷ z) m c.is_mu c.some) (below-trans A g (below-descent A g z s d.descent) (needed-below w z n))
+module _ (A : IntegerMatrix) (g : IsAdmissible A) (members : List (List ℕ)) (closed : IsClosed A members) (w : List ℕ)
+    (top : Contains members (normal_form A w)) where
+  -- what is below a member is one
+  pub below-contained : (y : List ℕ) → IsBelow A y w → Contains members (normal_form A y)
+  below-contained y below =
+      let p = contains-placed members (normal_form A w) top in
+      member-below A g members closed y p.i p.within
+      (rw p.is (below-same A g (same-refl A g y) (same-sym A g (normal_form-same A g w)) below))
 
-  module _ (members : List (List ℕ)) (closed : IsClosed A members) (w : List ℕ) (top : Contains members (normal_form A w)) where
-    -- what is below a member is one
-    pub below-contained : (y : List ℕ) → IsBelow A y w → Contains members (normal_form A y)
-    below-contained y below =
-        let p = contains-placed members (normal_form A w) top in
-        member-below A g members closed y p.i p.within
-        (rw p.is (below-same A g (same-refl A g y) (same-sym A g (normal_form-same A g w)) below))
-
-    -- where no member is beyond the limits, no row below a member needs one that is
-    pub none-needed : (limit : ℤ) → pos 0 ≤ℤ limit → ((i : ℕ) → i < length members → IsBeyond A limit (word_at members i) → ⊥)
-        → (z : List ℕ) → IsBelow A z w → NeedsBeyond A limit z → ⊥
-    none-needed limit least none z below h =
-        let u = h.element in
-        let p = contains-placed members (normal_form A u) (below-contained u (below-trans A g (needed-below z u h.needed) below)) in
-        none p.i p.within (rw p.is (beyond-same A g limit least u (normal_form A u) (same-sym A g (normal_form-same A g u)) h.beyond))
+  -- where no member is beyond the limits, no row below a member needs one that is
+  pub none-needed : (limit : ℤ) → pos 0 ≤ℤ limit → ((i : ℕ) → i < length members → IsBeyond A limit (word_at members i) → ⊥)
+      → (z : List ℕ) → IsBelow A z w → NeedsBeyond A limit z → ⊥
+  none-needed limit least none z below h =
+      let u = h.element in
+      let p = contains-placed members (normal_form A u) (below-contained u (below-trans A g (needed-below A g z u h.needed) below)) in
+      none p.i p.within (rw p.is (beyond-same A g limit least u (normal_form A u) (same-sym A g (normal_form-same A g u)) h.beyond))
 
 -- what has a number is a member
 pub number-contains : (members : List (List ℕ)) (word : List ℕ) (i : ℕ) → IsNumberOf members word (Some i) → Contains members word

@@ -1,5 +1,5 @@
 -- Rows and settled members in a larger context; and a context that has w already is its union with the interval of w.
-use Rattle.std.proofs.Common.{◌≡◌, inr, ⊎_elim, ℕ, ◌<◌, List, ◌∷◌, length, Option, None, Some, ◌↔◌, ◌∙◌, ℤ, arith}
+use Rattle.std.proofs.Common.{◌≡◌, inr, ⊎_elim, ℕ, ◌<◌, List, length, Option, None, Some, ◌↔◌, ◌∙◌, ℤ, arith}
 use Rattle.std.specs.Prelude.{Contains, IfSome}
 use Rattle.cox_base.specs.IntegerMatrix.{IntegerMatrix, integer_matrix}
 use Rattle.cox_base.specs.Admissible.{IsAdmissible}
@@ -7,9 +7,8 @@ use Rattle.cox_base.specs.Bruhat.{IsBelow}
 use Rattle.cox_base.specs.ShortLex.{normal_form}
 use Rattle.cox_reflect.proofs.Elements.{same-refl, same-sym}
 use Rattle.cox_reflect.proofs.Search.{normal_form-same}
-use Rattle.cox_reflect.proofs.Bruhat.{below-same, below-refl, below-trans, below-descent}
-use Rattle.cox_hecke.specs.Needs.{IsNeeded, itself, shorter, corrected}
-use Rattle.cox_hecke.proofs.Descended.{mu-below}
+use Rattle.cox_reflect.proofs.Bruhat.{below-same}
+use Rattle.cox_hecke.specs.Needs.{IsNeeded}
 use Rattle.cox_context.specs.Closed.{IsClosed, Elements}
 use Rattle.cox_context.specs.Union.{IsInUnion}
 use Rattle.cox_context.specs.Spread.{AreKept}
@@ -22,6 +21,7 @@ use Rattle.cox_row.specs.RowLists.{row_at}
 use Rattle.cox_row.proofs.GrownRows.{row-grown}
 use Rattle.cox_rows.specs.Holding.{Holding, HasRow, IsHeldRow, AreRows}
 use Rattle.cox_rows.specs.Ensured.{IsNeedClosed}
+use Rattle.cox_rows.proofs.NeedCases.{needed-below}
 
 -- ---- rows
 
@@ -43,15 +43,6 @@ module _ (old new : Elements) (g : IsAdmissible (integer_matrix old.matrix)) (fr
   rows-kept limit rows h = record { least = h.least; each = λ i. some-kept limit i (row_at rows i) (h.each i) }
 
 -- ---- rows beside those that they need
-
-module _ (A : IntegerMatrix) (g : IsAdmissible A) where
-  -- what the row of w needs is below w
-  needed-below : (w z : List ℕ) → IsNeeded A w z → IsBelow A z w
-  needed-below w z (itself e) = below-refl A g e
-  needed-below w v (shorter {z = z} {s = s} n d e) =
-      below-trans A g (below-same A g (same-sym A g e) (same-refl A g z) (below-descent A g z s d.descent)) (needed-below w z n)
-  needed-below w v (corrected {z = z} {s = s} {m = m} n d c) =
-      below-trans A g (mu-below A g v (s ∷ z) m c.is_mu c.some) (below-trans A g (below-descent A g z s d.descent) (needed-below w z n))
 
 -- where each row of Need(w) that is held has its own Need beside it, it is so in the larger context
 module _ (old new : Holding) (g : IsAdmissible (integer_matrix old.elements.matrix))

@@ -5,12 +5,13 @@ use Rattle.cox_base.specs.declared.side.Side.TheVariants.{Left}
 use Rattle.cox_base.specs.IntegerMatrix.{IntegerMatrix}
 use Rattle.cox_base.specs.Admissible.{IsAdmissible}
 use Rattle.cox_base.specs.Element.{SameElement}
+use Rattle.cox_base.specs.Bruhat.{IsBelow}
 use Rattle.cox_base.specs.Length.{word_length}
 use Rattle.cox_base.specs.Descents.{IsLeftDescent}
 use Rattle.cox_reflect.specs.LeastDescent.{IsLeastLeftDescent}
-use Rattle.cox_reflect.proofs.Elements.{same-refl, same-trans, same-cons}
+use Rattle.cox_reflect.proofs.Elements.{same-refl, same-sym, same-trans, same-cons}
 use Rattle.cox_reflect.proofs.Search.{word_length-equal}
-use Rattle.cox_reflect.proofs.Bruhat.{below-length}
+use Rattle.cox_reflect.proofs.Bruhat.{below-refl, below-same, below-trans, below-descent, below-length}
 use Rattle.cox_hecke.specs.Step.{IsCorrection}
 use Rattle.cox_hecke.specs.Needs.{IsNeeded, itself, shorter, corrected}
 use Rattle.cox_hecke.proofs.Descents.{some_left_descent}
@@ -50,6 +51,14 @@ module _ (A : IntegerMatrix) (g : IsAdmissible A) where
   needed-from v w z e n = needed-trans A g w v z (itself e) n
 
   -- ---- what is shorter than w
+
+  -- what the row of w needs is below w
+  pub needed-below : (w z : List ℕ) → IsNeeded A w z → IsBelow A z w
+  needed-below w z (itself e) = below-refl A g e
+  needed-below w v (shorter {z = z} {s = s} n d e) =
+      below-trans A g (below-same A g (same-sym A g e) (same-refl A g z) (below-descent A g z s d.descent)) (needed-below w z n)
+  needed-below w v (corrected {z = z} {s = s} {m = m} n d c) =
+      below-trans A g (mu-below A g v (s ∷ z) m c.is_mu c.some) (below-trans A g (below-descent A g z s d.descent) (needed-below w z n))
 
   -- a correction of the step from sw is no longer than sw
   pub correction-length : (s : ℕ) (v u : List ℕ) (m : ℤ) → IsCorrection Left A s v u m → word_length A u ≤ word_length A v
