@@ -3,15 +3,15 @@
 //! It ends with the number of a `cox_cert::CheckStatus`. What it writes is proved in `cox_cert`. `main` collects the arguments, which may
 //! run out of memory, and makes the standard streams. Of words behind the program's name it matters only that there are some, so one that
 //! is no text is refused as any other. Each function but `main` is generic over the source and the sink, and its contract is that of one
-//! whole check, `IsCheck` of `cox_cert`, with the arguments that were collected, so nothing is read or written before it, behind it or
-//! beside it.
+//! whole check (`IsCheckWith`, `IsCheckOfCollected`), so nothing is read or written before it, behind it or beside it.
 #![tactic(auto)]
 
-ghost use Rattle.std.specs.Prelude.{◌≡◌, ◌≢◌, ℕ, List, [], map, drop, IfOk, IfErr, IfSome, IfNone};
+ghost use Rattle.std.specs.Prelude.{◌≡◌, map, drop};
 ghost use Rattle.std.specs.Process.{exit_status};
 ghost use Rattle.std.specs.String.{string_bytes};
-ghost use Rattle.cox_cert.specs.Checks.{IsCheck, check_code_of};
+ghost use Rattle.cox_cert.specs.Checks.{check_code_of};
 ghost use Rattle.cox_cert.specs.declared.status.CheckStatus.{CheckStatus};
+ghost use Rattle.coxcheck.specs.CollectedArguments.{IsCheckWith, IsCheckOfCollected};
 
 use cox_cert::{CheckStatus, check, refuse_words};
 use cox_outside::{Sink, Source, StdSink, StdSource, arguments_of};
@@ -29,9 +29,7 @@ fn run_arguments<S: Source, K: Sink>(
     source: &mut S,
     sink: &mut K,
 ) -> CheckStatus
-    ensures check { IsCheck result (drop 1 (map string_bytes arguments.now))
-        (S.seen source.old) (S.seen source.new) (K.seen sink.old) (K.seen sink.new) }
-    ensures unread { drop 1 (map string_bytes arguments.now) ≢ [] → source.new ≡ source.old }
+    ensures { IsCheckWith (drop 1 (map string_bytes arguments.now)) result S.seen source.old source.new K.seen sink.old sink.new }
 {
     if arguments.len() > 1 {
         return refuse_words(sink);
@@ -47,17 +45,7 @@ fn start<S: Source, K: Sink>(
     source: &mut S,
     sink: &mut K,
 ) -> CheckStatus
-    ensures check { (words : List (List ℕ))
-        × IsCheck result words (S.seen source.old) (S.seen source.new) (K.seen sink.old) (K.seen sink.new)
-        × (words ≢ [] → source.new ≡ source.old) }
-    ensures texts { IfOk collected (λ found. IfSome found (λ arguments. IsCheck result (drop 1 (map string_bytes arguments.items))
-        (S.seen source.old) (S.seen source.new) (K.seen sink.old) (K.seen sink.new))) }
-    ensures no_texts { IfOk collected (λ found. IfNone found ((words : List (List ℕ)) → words ≢ []
-        → IsCheck result words (S.seen source.old) (S.seen source.new) (K.seen sink.old) (K.seen sink.new))) }
-    ensures none { IfErr collected (λ _. (result ≡ CheckStatus.NoMemory) × (source.new ≡ source.old) × (sink.new ≡ sink.old)) }
-    ensures unread { IfOk collected (λ found. IfSome found (λ arguments. drop 1 (map string_bytes arguments.items) ≢ []
-        → source.new ≡ source.old)) }
-    ensures no_texts_unread { IfOk collected (λ found. IfNone found (source.new ≡ source.old)) }
+    ensures { IsCheckOfCollected collected result S.seen source.old source.new K.seen sink.old sink.new }
 {
     match collected {
         Ok(Some(arguments)) => run_arguments(alloc, &arguments, source, sink),
@@ -73,8 +61,7 @@ fn exit_code(status: CheckStatus) -> ExitCode
     ExitCode::from(status.code())
 }
 
-/// Checks with the arguments that were collected, and gives the status out. Its contract says for each case which check that is, as that of
-/// `start` does. No contract tells which arguments an environment has.
+/// Checks with the arguments that were collected, and gives the status out. No contract tells which arguments an environment has.
 fn ended<S: Source, K: Sink>(
     alloc: Global,
     collected: Result<Option<Vec<String>>, AllocError>,
@@ -82,13 +69,7 @@ fn ended<S: Source, K: Sink>(
     sink: &mut K,
 ) -> ExitCode
     ensures { (status : CheckStatus) × (exit_status result ≡ check_code_of status)
-        × IfOk collected (λ found. IfSome found (λ arguments. IsCheck status (drop 1 (map string_bytes arguments.items))
-        (S.seen source.old) (S.seen source.new) (K.seen sink.old) (K.seen sink.new)))
-        × IfOk collected (λ found. IfSome found (λ arguments. drop 1 (map string_bytes arguments.items) ≢ [] → source.new ≡ source.old))
-        × IfOk collected (λ found. IfNone found ((words : List (List ℕ)) → words ≢ []
-        → IsCheck status words (S.seen source.old) (S.seen source.new) (K.seen sink.old) (K.seen sink.new)))
-        × IfOk collected (λ found. IfNone found (source.new ≡ source.old))
-        × IfErr collected (λ _. (status ≡ CheckStatus.NoMemory) × (source.new ≡ source.old) × (sink.new ≡ sink.old)) }
+        × IsCheckOfCollected collected status S.seen source.old source.new K.seen sink.old sink.new }
 {
     exit_code(start(alloc, collected, source, sink))
 }

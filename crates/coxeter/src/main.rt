@@ -4,7 +4,7 @@
 //! what is written, and starts at most as many threads as the arguments say; the gate that `main` hands to them holds nobody. `main`
 //! collects the arguments, which may run out of memory, and makes the standard streams; no other function sees the environment. If an
 //! argument is no text, arguments that are refused take the place of all. Each function but `main` is generic over the source and the
-//! sink. Its contract is that of one whole run (`IsRun`, `IsReadBy`), so nothing is read or written before, after or beside it.
+//! sink. Its contract is that of one whole run (`IsRunWith`, `IsRunOfFound`), so nothing is read or written before, after or beside it.
 //!
 //! The scripts that need no arguments of their own are the crate's `stdin`, and what has to be written for them is its `stdout`. Tests:
 //!
@@ -23,15 +23,13 @@ mod starting;
 #[cfg(test)]
 mod workers;
 
-ghost use Rattle.std.specs.Prelude.{◌≡◌, ℕ, List, map, IfOk, IfErr, IfSome, IfNone};
+ghost use Rattle.std.specs.Prelude.{◌≡◌, ℕ, List, map};
 ghost use Rattle.std.specs.Process.{exit_status};
 ghost use Rattle.std.specs.String.{string_bytes};
 ghost use Rattle.cox_options.specs.Arguments.{IsUsage};
 ghost use Rattle.cox_shell.specs.declared.status.Status.{Status};
-ghost use Rattle.cox_shell.specs.declared.status.Status.TheVariants.{NoMemory};
 ghost use Rattle.cox_shell.specs.ExitCode.{code_of};
-ghost use Rattle.cox_shell.specs.Reading.{IsReadBy};
-ghost use Rattle.cox_shell.specs.WholeRun.{IsRun};
+ghost use Rattle.coxeter.specs.FoundArguments.{IsRunWith, IsRunOfFound};
 
 use cox_options::wrong_arguments;
 use cox_outside::{Gate, Open, Sink, Source, StdSink, StdSource, arguments_of, texts};
@@ -54,10 +52,7 @@ fn run_arguments<R: Threads + Wait + Sync, S: Source, K: Sink, G: Gate + Sync>(
     sink: &mut K,
     gate: &G,
 ) -> Status
-    ensures run { IsRun result (map string_bytes arguments.now)
-        (S.seen source.old) (S.seen source.new) (K.seen sink.old) (K.seen sink.new) }
-    ensures reading { IsReadBy result (map string_bytes arguments.now) (S.seen source.old) (S.seen source.new) }
-    ensures unread { IsUsage (map string_bytes arguments.now) → source.new ≡ source.old }
+    ensures { IsRunWith (map string_bytes arguments.now) result S.seen source.old source.new K.seen sink.old sink.new }
 {
     match texts(alloc, arguments) {
         Ok(texts) => run(rt, alloc, &texts, source, sink, gate),
@@ -73,10 +68,8 @@ fn refuse<R: Threads + Wait + Sync, S: Source, K: Sink, G: Gate + Sync>(
     sink: &mut K,
     gate: &G,
 ) -> Status
-    ensures run { (arguments : List (List ℕ)) × IsUsage arguments
-        × IsRun result arguments (S.seen source.old) (S.seen source.new) (K.seen sink.old) (K.seen sink.new)
-        × IsReadBy result arguments (S.seen source.old) (S.seen source.new) }
-    ensures unread { source.new ≡ source.old }
+    ensures { (arguments : List (List ℕ)) × IsUsage arguments
+        × IsRunWith arguments result S.seen source.old source.new K.seen sink.old sink.new }
 {
     run(rt, alloc, &wrong_arguments(), source, sink, gate)
 }
@@ -91,19 +84,7 @@ fn start<R: Threads + Wait + Sync, S: Source, K: Sink, G: Gate + Sync>(
     sink: &mut K,
     gate: &G,
 ) -> Status
-    ensures run { (arguments : List (List ℕ))
-        × IsRun result arguments (S.seen source.old) (S.seen source.new) (K.seen sink.old) (K.seen sink.new)
-        × IsReadBy result arguments (S.seen source.old) (S.seen source.new) }
-    ensures texts { IfOk found (λ some. IfSome some (λ arguments. IsRun result (map string_bytes arguments.items)
-        (S.seen source.old) (S.seen source.new) (K.seen sink.old) (K.seen sink.new)
-        × IsReadBy result (map string_bytes arguments.items) (S.seen source.old) (S.seen source.new))) }
-    ensures no_texts { IfOk found (λ some. IfNone some ((arguments : List (List ℕ)) × IsUsage arguments
-        × IsRun result arguments (S.seen source.old) (S.seen source.new) (K.seen sink.old) (K.seen sink.new)
-        × IsReadBy result arguments (S.seen source.old) (S.seen source.new))) }
-    ensures none { IfErr found (λ _. (result ≡ NoMemory) × (source.new ≡ source.old) × (sink.new ≡ sink.old)) }
-    ensures unread { IfOk found (λ some. IfSome some (λ arguments. IsUsage (map string_bytes arguments.items)
-        → source.new ≡ source.old)) }
-    ensures no_texts_unread { IfOk found (λ some. IfNone some (source.new ≡ source.old)) }
+    ensures { IsRunOfFound found result S.seen source.old source.new K.seen sink.old sink.new }
 {
     match found {
         Ok(Some(arguments)) => run_arguments(rt, alloc, &arguments, source, sink, gate),
@@ -119,8 +100,7 @@ fn exit_code(status: Status) -> ExitCode
     ExitCode::from(status.code())
 }
 
-/// Runs the shell with the arguments that were found, and gives its status out. Its contract says for each case which run that is, as that
-/// of `start` does. No contract tells which arguments an environment has.
+/// Runs the shell with the arguments that were found, and gives its status out. No contract tells which arguments an environment has.
 fn ended<R: Threads + Wait + Sync, S: Source, K: Sink, G: Gate + Sync>(
     rt: &R,
     alloc: Global,
@@ -130,15 +110,7 @@ fn ended<R: Threads + Wait + Sync, S: Source, K: Sink, G: Gate + Sync>(
     gate: &G,
 ) -> ExitCode
     ensures { (status : Status) × (exit_status result ≡ code_of status)
-        × IfOk found (λ some. IfSome some (λ arguments. IsRun status (map string_bytes arguments.items)
-        (S.seen source.old) (S.seen source.new) (K.seen sink.old) (K.seen sink.new)
-        × IsReadBy status (map string_bytes arguments.items) (S.seen source.old) (S.seen source.new)))
-        × IfOk found (λ some. IfNone some ((arguments : List (List ℕ)) × IsUsage arguments
-        × IsRun status arguments (S.seen source.old) (S.seen source.new) (K.seen sink.old) (K.seen sink.new)
-        × IsReadBy status arguments (S.seen source.old) (S.seen source.new)))
-        × IfErr found (λ _. (status ≡ NoMemory) × (source.new ≡ source.old) × (sink.new ≡ sink.old))
-        × IfOk found (λ some. IfSome some (λ arguments. IsUsage (map string_bytes arguments.items) → source.new ≡ source.old))
-        × IfOk found (λ some. IfNone some (source.new ≡ source.old)) }
+        × IsRunOfFound found status S.seen source.old source.new K.seen sink.old sink.new }
 {
     exit_code(start(rt, alloc, found, source, sink, gate))
 }

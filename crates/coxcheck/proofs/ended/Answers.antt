@@ -2,12 +2,4 @@
 use Rattle.coxcheck.proofs.ended.Goals as goal
 
 pub returns : goal.returns
-returns g c = let check = c.start.ensures in (
-  c.start.result,
-  c.exit_code.ensures,
-  check.texts,
-  check.unread,
-  check.no_texts,
-  check.no_texts_unread,
-  check.none,
-)
+returns g c = (c.start.result, c.exit_code.ensures, c.start.ensures)

@@ -1,8 +1,13 @@
 -- The proof of `refuse`: the arguments of the run give no options.
 use Rattle.coxeter.proofs.refuse.Goals as goal
 
-pub returns-clause-run : goal.returns-clause-run
-returns-clause-run g c = (_, c.wrong_arguments.ensures, c.run.ensures.run, c.run.ensures.reading)
-
-pub returns-clause-unread : goal.returns-clause-unread
-returns-clause-unread g c = c.run.ensures.unread c.wrong_arguments.ensures
+pub returns : goal.returns
+returns g c = (
+  _,
+  c.wrong_arguments.ensures,
+  record {
+    run = c.run.ensures.run;
+    reading = c.run.ensures.reading;
+    unread = c.run.ensures.unread;
+  },
+)
