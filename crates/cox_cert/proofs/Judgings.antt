@@ -11,12 +11,13 @@ use Rattle.cox_base.specs.SortedList.{IsListOf}
 use Rattle.cox_rpoly.specs.declared.TheConstants.{MAX_DIFFERENCE}
 use Rattle.cox_rowcheck.specs.ListedRows.{AreRow}
 use Rattle.cox_rowcheck.specs.CheckablePolynomials.{IsCheckable}
+use Rattle.cox_rowcheck.specs.Conditions.{AreBounded}
 use Rattle.cox_certtext.specs.declared.limits.TheConstants.{MAX_LISTED}
 use Rattle.cox_cert.specs.declared.draft.Draft.{Draft}
 use Rattle.cox_certtext.specs.Certificate.{Certificate, words_of_entries, polynomials_of_entries}
 use Rattle.cox_cert.specs.Causes.{HasTop, HasInterval, HasRow}
 use Rattle.cox_cert.specs.Drafts.{IsDraftOf, letters_of}
-use Rattle.cox_cert.specs.Judgements.{HasCertificate, StatesTop, StatesInterval, StatesRow}
+use Rattle.cox_cert.specs.Judgements.{HasCertificate, StatesTop, StatesInterval, StatesBounded, StatesRow}
 use Rattle.cox_base.specs.Admissible.{IsCoxeterMatrix, IsAdmissible}
 use Rattle.cox_reflect.proofs.Admissible.{IsAdmissible-integer_matrix}
 use Rattle.cox_context.specs.Numbers.{word_at}
@@ -122,6 +123,15 @@ module _ (draft : Draft) (certificate : HasCertificate draft) (top : StatesTop d
         (subst (λ w. IsTrue answer ↔ AreRow (integer_matrix g) w (letters_of draft.words.items) draft.polynomials.items) last-at
         (subst (λ l. IsTrue answer ↔ AreRow (integer_matrix g) (word_at members (n - 1)) l draft.polynomials.items) same
         (subst (λ l. IsTrue answer ↔ AreRow (integer_matrix g) (word_at members (n - 1)) members l) are decides)))
+
+    pub row-bounded : (polynomials : List (List ℤ)) → polynomials ≡ draft.polynomials.items → AreBounded members (n - 1) polynomials
+        → StatesBounded draft
+    row-bounded polynomials are bounded =
+        let count : n ≡ length draft.words.items
+        = size ∙ ap length same ∙ length-map draft.words.items (λ (word : ArrayVec ℕ). word.items) in
+        subst (λ m. AreBounded (letters_of draft.words.items) (m - 1) draft.polynomials.items) count
+        (subst (λ l. AreBounded l (n - 1) draft.polynomials.items) same
+        (subst (λ l. AreBounded members (n - 1) l) are bounded))
 
 -- ---- members and words, one by one
 

@@ -1,11 +1,12 @@
 -- For code: which cause is the first that applies to a certificate.
-use Rattle.std.specs.Prelude.{◌≡◌, ◌≤◌, length, Option, Some, None}
+use Rattle.std.specs.Prelude.{◌≡◌, ◌-◌, ◌≤◌, length, Option, Some, None}
 use Rattle.cox_base.specs.IntegerMatrix.{integer_matrix}
 use Rattle.cox_base.specs.ShortLex.{normal_form}
 use Rattle.cox_base.specs.Members.{IsInInterval}
 use Rattle.cox_base.specs.SortedList.{IsListOf}
 use Rattle.cox_rpoly.specs.declared.TheConstants.{MAX_DIFFERENCE}
 use Rattle.cox_rowcheck.specs.ListedRows.{AreRow}
+use Rattle.cox_rowcheck.specs.Conditions.{AreBounded}
 use Rattle.cox_cert.specs.declared.status.Cause.{Cause}
 use Rattle.cox_cert.specs.declared.status.Cause.TheVariants.{Grammar, Top, Interval, Size, Row}
 use Rattle.cox_cert.specs.declared.status.CheckStatus.{CheckStatus}
@@ -30,6 +31,10 @@ pub record StatesTop (draft : Draft) : Type 0 where
 abbrev pub StatesInterval : Draft → Type 0
 StatesInterval draft = IsListOf (IsInInterval (integer_matrix draft.group) draft.top.items) (letters_of draft.words.items)
 
+-- .. the polynomial of the last word, which is the element, is 1, and the others meet the bound on their degrees ..
+abbrev pub StatesBounded : Draft → Type 0
+StatesBounded draft = AreBounded (letters_of draft.words.items) (length draft.words.items - 1) draft.polynomials.items
+
 -- .. and the polynomials are its row
 abbrev pub StatesRow : Draft → Type 0
 StatesRow draft = AreRow (integer_matrix draft.group) draft.top.items (letters_of draft.words.items) draft.polynomials.items
@@ -43,12 +48,12 @@ IsFirst (Some Interval) c = HasTop c × ¬ HasInterval c
 IsFirst (Some Size) c = HasTop c × HasInterval c × ¬ HasSmall c
 IsFirst (Some Row) c = HasTop c × HasInterval c × HasSmall c × ¬ HasRow c
 
--- how the check of a certificate ends
+-- how the check of a certificate ends: memory runs out only where the first condition holds
 abbrev pub IsJudged : CheckStatus → Certificate → Type 0
 IsJudged Yes c = IsFirst None c
 IsJudged (No cause) c = IsFirst (Some cause) c
 IsJudged Usage c = ⊥
 IsJudged ReadFault c = ⊥
 IsJudged WriteFault c = ⊥
-IsJudged NoMemory c = Unit {0}
+IsJudged NoMemory c = HasTop c
 IsJudged InputLimit c = ⊥

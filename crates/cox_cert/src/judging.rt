@@ -1,8 +1,9 @@
 //! Whether a certificate states the row of its element.
-ghost use Rattle.std.specs.Prelude.{◌≡◌, ◌↔◌, false, IsTrue, IfOk, IfSome, MatchOption};
+ghost use Rattle.std.specs.Prelude.{◌≡◌, ◌↔◌, false, IsTrue, IfOk, IfSome, MatchOption, OnErr};
 ghost use Rattle.cox_certtext.specs.Certificate.{Certificate, IsCertificate};
+ghost use Rattle.cox_cert.specs.Causes.{HasTop};
 ghost use Rattle.cox_cert.specs.Drafts.{IsDraftOf, letters_of};
-ghost use Rattle.cox_cert.specs.Judgements.{StatesTop, StatesInterval, StatesRow, IsFirst, IsJudged, HasCertificate};
+ghost use Rattle.cox_cert.specs.Judgements.{StatesTop, StatesInterval, StatesBounded, StatesRow, IsFirst, IsJudged, HasCertificate};
 
 use crate::draft::Draft;
 use crate::status::{Cause, CheckStatus};
@@ -26,10 +27,12 @@ pub(crate) fn judge(alloc: Global, draft: &Draft) -> CheckStatus
     }
 }
 
-/// The first cause that applies to the parts of a certificate, if one does.
+/// The first cause that applies to the parts of a certificate, if one does. That the element is not given by its normal form, or is too long,
+/// is told without memory.
 fn first_cause(alloc: Global, draft: &Draft) -> Result<Option<Cause>, AllocError>
     requires { HasCertificate draft.now }
-    ensures { IfOk result (λ cause. (c : Certificate) → IsCertificate c → IsDraftOf draft.now c → IsFirst cause c) }
+    ensures first { IfOk result (λ cause. (c : Certificate) → IsCertificate c → IsDraftOf draft.now c → IsFirst cause c) }
+    ensures memory { OnErr result ((c : Certificate) → IsCertificate c → IsDraftOf draft.now c → HasTop c) }
 {
     if !has_top(draft) {
         return Ok(Some(Cause::Top));
@@ -110,7 +113,8 @@ fn has_row(alloc: Global, draft: &Draft, context: &Context) -> Result<bool, Allo
     requires small { draft.now.large ≡ false }
     requires matrix { context.now.matrix ≡ draft.now.group }
     requires members { context.now.members ≡ letters_of draft.now.words.items }
-    ensures { IfOk result (λ answer. IsTrue answer ↔ StatesRow draft.now) }
+    ensures row { IfOk result (λ answer. IsTrue answer ↔ StatesRow draft.now) }
+    ensures bounded { OnErr result (StatesBounded draft.now) }
 {
     let last = context.len() - 1;
     is_row(alloc, context, last, draft.polynomials.as_slice())

@@ -4,22 +4,22 @@ use Rattle.cox_cert.specs.Judgements.{StatesTop, StatesInterval, StatesRow}
 use Rattle.cox_cert.proofs.Judgings.{top-is, interval-is, row-is, row-of}
 use Rattle.cox_cert.proofs.judging.first_cause.Goals as goal
 
-pub returns-then-not-branch : goal.returns-then-not-branch
-returns-then-not-branch c = λ d is parts.
+pub returns-then-not-branch-clause-first : goal.returns-then-not-branch-clause-first
+returns-then-not-branch-clause-first c = λ d is parts.
     let draft = c.args.draft.now in
     let top : StatesTop draft = c.if-not-has_top.ensures.0 refl in
     let interval : StatesInterval draft = rw c.in-Some.is at c.in_ok-context.ensures.interval in (
       top-is draft d parts top,
       interval-is draft d parts interval,
       parts.small c.if-draft.false,
-      λ h. absurd (cc (c.if-not-branch.true, c.in_ok-has_row.ensures.1 (row-of draft d parts c.if-draft.false h))),
+      λ h. absurd (cc (c.if-not-branch.true, c.in_ok-has_row.ensures.row.1 (row-of draft d parts c.if-draft.false h))),
     )
 
-pub returns : goal.returns
-returns c = λ d is parts.
+pub returns-clause-first : goal.returns-clause-first
+returns-clause-first c = λ d is parts.
     let draft = c.args.draft.now in
     let top : StatesTop draft = c.if-not-has_top.ensures.0 refl in
     let interval : StatesInterval draft = rw c.in-Some.is at c.in_ok-context.ensures.interval in
     let told : c.in_ok-has_row.field-0 ≡ true = cc in
-    let row : StatesRow draft = c.in_ok-has_row.ensures.0 told in
+    let row : StatesRow draft = c.in_ok-has_row.ensures.row.0 told in
     (top-is draft d parts top, interval-is draft d parts interval, parts.small c.if-draft.false, row-is draft d parts c.if-draft.false row)

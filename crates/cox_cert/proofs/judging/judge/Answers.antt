@@ -3,4 +3,4 @@ use Rattle.std.proofs.Common.{ap, ◌∙◌, Ok}
 use Rattle.cox_cert.proofs.judging.judge.Goals as goal
 
 pub returns-in-Ok-None : goal.returns-in-Ok-None
-returns-in-Ok-None c = rw (c.in-Ok-None.is ∙ ap Ok c.in-Ok-None.field-0-is) at c.first_cause.ensures
+returns-in-Ok-None c = rw (c.in-Ok-None.is ∙ ap Ok c.in-Ok-None.field-0-is) at c.first_cause.ensures.first
