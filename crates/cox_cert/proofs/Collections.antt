@@ -6,6 +6,7 @@ use Rattle.std.specs.Option.{IfSome, IsSome, option_map}
 use Rattle.std.specs.Io.KnownBytes.{prepend_known, IsAtEnd}
 use Rattle.std.proofs.lemmas.List.{append-nil}
 use Rattle.std.proofs.lemmas.List.Elements.{All-nil, All-push}
+use Rattle.std.proofs.lemmas.Option.{IfSome_then}
 use Rattle.cox_outside.specs.declared.limits.TheConstants.{LINE_LIMIT, INPUT_LIMIT}
 use Rattle.cox_outside.specs.declared.line_reader.Stop.{Stop}
 use Rattle.cox_outside.specs.declared.line_reader.Stop.TheVariants as stop
@@ -133,10 +134,6 @@ IfSome-both : {X : Type 0} (P Q : X → Type 0) (known : Option X) → IfSome kn
 IfSome-both P Q None p q = tt
 IfSome-both P Q (Some x) p q = (p, q)
 
-IfSome-follows : {X : Type 0} (P Q : X → Type 0) (known : Option X) → ((x : X) → P x → Q x) → IfSome known P → IfSome known Q
-IfSome-follows P Q None h p = tt
-IfSome-follows P Q (Some x) h p = h x p
-
 module _ (text left : Option (List ℕ)) (old new : Ahead) (pending : List ℕ)
     (begins : old.bytes ≡ text) (limit : old.budget ≡ INPUT_LIMIT)
     (behind : new.bytes ≡ prepend_known pending left) (waits : new.pending ≡ pending) where
@@ -211,9 +208,8 @@ module _ (text left : Option (List ℕ)) (old new : Ahead) (pending : List ℕ)
       → ((c : Certificate) → ¬ Gives lines c) → Gathers (Err halt.Foreign) text left
   gathers-none lines stops t halted none =
       subst (λ known. IfSome known (λ bytes. IsFirstCause Grammar (contents bytes))) begins
-      (IfSome-follows (λ bytes. contents bytes ≡ lines) (λ bytes. IsFirstCause Grammar (contents bytes)) old.bytes
-      (λ bytes same c gives. none c (subst (λ l. Gives l c) same gives))
-      (contents-all lines stops old new t (halted-end stops new halted t.halted)))
+      (IfSome_then old.bytes (contents-all lines stops old new t (halted-end stops new halted t.halted))
+      (λ bytes same c gives. none c (subst (λ l. Gives l c) same gives)))
 
   -- the reading halted
   pub gathers-halted : (why : Halt) (form : Form) (before after : Option Stop) (now : Ahead) → Progress form before old now

@@ -5,6 +5,7 @@ use Rattle.std.proofs.Common.{take, is_some, append_assoc, ⊎_elim}
 use Rattle.std.proofs.Common.{refl, sym, ◌∙◌, subst, arith, length-append, ap}
 use Rattle.std.specs.Option.{IfSome, IsSome}
 use Rattle.std.proofs.lemmas.List.{append-nil}
+use Rattle.std.proofs.lemmas.Option.{IfSome_then}
 use Rattle.cox_outside.specs.declared.limits.TheConstants.{CHUNK_SIZE}
 use Rattle.cox_outside.specs.Supply.{Supply}
 use Rattle.cox_outside.specs.Reader.{Reader}
@@ -20,7 +21,7 @@ use Rattle.cox_shell.specs.Outcome.{EndsReading}
 use Rattle.cox_shell.specs.Closing.{HasClosed, IsClosingCut}
 use Rattle.cox_shell.specs.Top.{usage_line, given_limits, StopsReading, AreDue, AreDueAtEnd}
 use Rattle.cox_shell.specs.Top.{IsDue, WritesDue}
-use Rattle.cox_shell.proofs.KnownValues.{IfSome-made, IfSome-follows}
+use Rattle.cox_shell.proofs.KnownValues.{IfSome-made}
 use Rattle.cox_shell.proofs.WrittenByRun.{beginning, none_closing, texts-append, WritesPrefix-due, EndsReading-due, both_written}
 
 -- what is due for right arguments, and for wrong ones
@@ -114,13 +115,12 @@ module _ (arguments : List (List ℕ)) (script : Option (List ℕ)) (old : Outle
           ),
           Writes-append (texts h.replies) cut.prefix old mid new h.writes cut.writes,
           λ e. IfSome-made (λ left. left + length (texts h.replies)) (λ count. count < length (texts all)) old.room mid.room h.writes.room
-              (IfSome-follows (λ left. left < length (texts cut.closing)) (λ left. left + length (texts h.replies) < length (texts all))
-              mid.room (λ left less. omega (
+              (IfSome_then mid.room (room e) (λ left less. omega (
                 arith,
                 ap length (texts-append h.replies cut.closing),
                 length-append (texts h.replies) (texts cut.closing),
                 less,
-              )) (room e)),
+              ))),
         )
 
     pub closing_lost : (lost : Bool) (h : EndsReading lost start end) (cut : IsClosingCut state mid new)

@@ -8,6 +8,7 @@ use Rattle.std.specs.Io.KnownBytes.{prepend_known, IsAtEnd}
 use Rattle.std.proofs.lemmas.List.{append-nil, take_at}
 use Rattle.std.proofs.Math.Bool.{or-false}
 use Rattle.std.proofs.lemmas.Bool.Decides.{nat_tests}
+use Rattle.std.proofs.lemmas.Option.{IfSome_then}
 use Rattle.cox_outside.specs.declared.limits.TheConstants.{CHUNK_SIZE}
 use Rattle.cox_outside.specs.declared.line_reader.Stop.{Stop}
 use Rattle.cox_outside.specs.declared.line_reader.Stop.TheVariants as stop
@@ -30,7 +31,7 @@ use Rattle.cox_shell.specs.Keeping.{KeepsState}
 use Rattle.cox_shell.specs.Run.{Stand, IsServed, IsCutOff, Serves, stopped_read_fault, stopped_write_fault}
 use Rattle.cox_shell.specs.Outcome.{HasRead, WritesPrefix, WritesAll, StopsThere, IsCutShort, AnswersAll, AnswersEnded}
 use Rattle.cox_shell.specs.Outcome.{AnswersToFault, AnswersToLimit, Runs}
-use Rattle.cox_shell.proofs.KnownValues.{IfSome-made, IfSome-each, IfSome-follows}
+use Rattle.cox_shell.proofs.KnownValues.{IfSome-made, IfSome-each}
 use Rattle.cox_shell.proofs.LineReplies.{AreReplies-one, AreReplies-quit}
 use Rattle.cox_shell.proofs.NoLines.{no_lines-end}
 use Rattle.cox_shell.proofs.TakenLines.{TakenLines, TakenLines-one, TakenLines-append, HasRead-taken, HasRead-begun, HasRead-limit}
@@ -51,9 +52,9 @@ no_more : (refused : Bool) (old now : Stand) (p : Progress refused old now) → 
 no_more refused old now p none =
     IfSome-made (λ more. p.lines ++ more) (λ lines. AreReplies old.state lines p.done) (lines_ahead old.ahead)
     (lines_ahead now.ahead) p.read.cut
-    (IfSome-follows (λ more. more ≡ []) (λ more. AreReplies old.state (p.lines ++ more) p.done) (lines_ahead now.ahead)
+    (IfSome_then (lines_ahead now.ahead) none
     (λ more e. subst (λ lines. AreReplies old.state lines p.done) (sym (ap (λ l. p.lines ++ l) e ∙ append-nil p.lines))
-    (so_far refused old now p)) none)
+    (so_far refused old now p)))
 
 -- the replies so far were written, and nothing since
 prefix_so_far : (refused : Bool) (old now next : Stand) (p : Progress refused old now) → HasRead p.lines old.ahead next.ahead → next.out
@@ -277,9 +278,8 @@ ends_cut_off refused old now next going p cut =
       },
       λ small. IfSome-made (λ left. left + length (texts p.done))
           (λ left. left < length (texts replies)) old.out.room now.out.room p.writes.room
-          (IfSome-follows (λ left. left < length cut.reply.text)
-          (λ left. left + length (texts p.done) < length (texts replies)) now.out.room
-          (λ left less. omega (arith, ap length joined, length-append (texts p.done) cut.reply.text)) small),
+          (IfSome_then now.out.room small
+          (λ left less. omega (arith, ap length joined, length-append (texts p.done) cut.reply.text))),
     )
 
 -- which status it ends by

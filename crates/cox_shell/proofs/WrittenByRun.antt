@@ -10,6 +10,7 @@ use Rattle.std.proofs.lemmas.List.Folds.{list_any-append}
 use Rattle.std.proofs.lemmas.Grind.{flat_map-append}
 use Rattle.std.proofs.Math.Bool.{or-false}
 use Rattle.std.specs.Io.KnownBytes.{prepend_known, IsAtEnd}
+use Rattle.std.proofs.lemmas.Option.{IfSome_then}
 use Rattle.cox_outside.specs.declared.limits.TheConstants.{INPUT_LIMIT, CHUNK_SIZE}
 use Rattle.cox_outside.specs.Line.{line_feed, ended_lines, lines_within}
 use Rattle.cox_outside.specs.Supply.{Supply}
@@ -35,7 +36,7 @@ use Rattle.cox_shell.specs.Top.{given_limits, StopsReading, IsReadWhole, Answers
 use Rattle.cox_shell.specs.GivenLimits.{GiveLimits}
 use Rattle.cox_shell.proofs.KeptStates.{some-kept, closing-kept}
 use Rattle.cox_shell.proofs.ListReplies.{IsListReply-closed}
-use Rattle.cox_shell.proofs.KnownValues.{IfSome-unmade, IfSome-follows}
+use Rattle.cox_shell.proofs.KnownValues.{IfSome-unmade}
 
 -- a number that is given, as an integer
 coefficient-given : (given : Option ℕ) (coef : ℤ) → option_map pos given ≡ Some coef → unwrap_or given 0 ≡ unsigned_abs coef
@@ -128,17 +129,15 @@ module _ (limits : Limits) (script : Option (List ℕ)) (old : Outlet) (state : 
   StopsThere-reading replies more h = (
     h.taken ++ reader.feed.pending,
     gave_all h.taken h.gave,
-    IfSome-follows (λ bytes. length h.taken ≤ length (bytes_of (take (length replies) (script_lines bytes))))
-        (λ bytes. length (h.taken ++ reader.feed.pending) < length
-        (bytes_of (take (length (replies ++ more)) (script_lines bytes))) + CHUNK_SIZE) script
+    IfSome_then script
+        (IfSome-unmade (λ bytes. lines_within INPUT_LIMIT bytes)
+        (λ lines. length h.taken ≤ length (bytes_of (take (length replies) lines))) script h.size)
         (λ bytes size. rw (length-append replies more) (omega (
           arith,
           h.few,
           length-append h.taken reader.feed.pending,
           bytes_of-more (length replies) (length more) (script_lines bytes),
-        )))
-        (IfSome-unmade (λ bytes. lines_within INPUT_LIMIT bytes)
-        (λ lines. length h.taken ≤ length (bytes_of (take (length replies) lines))) script h.size),
+        ))),
   )
 
   -- where no byte is pending all that the reader took is handed out
@@ -160,11 +159,10 @@ module _ (limits : Limits) (script : Option (List ℕ)) (old : Outlet) (state : 
   script_replies : (all : WritesAll begins ends) (closing : List Reply) → IsClosing state closing
       → IfSome script (λ bytes. AreScriptReplies limits bytes (all.replies ++ closing))
   script_replies all closing closes =
-      IfSome-follows (λ bytes. AreReplies (opening limits) (script_lines bytes) all.replies)
-      (λ bytes. AreScriptReplies limits bytes (all.replies ++ closing)) script
-      (λ bytes are. all_replies (script_lines bytes) all.replies closing are all.behind closes)
+      IfSome_then script
       (IfSome-unmade (λ bytes. lines_within INPUT_LIMIT bytes) (λ lines. AreReplies (opening limits) lines all.replies) script
       all.are_replies)
+      (λ bytes are. all_replies (script_lines bytes) all.replies closing are all.behind closes)
 
   -- where reading has ended inside a list, the replies to all that was read, and to the end of the list, are due
   pub EndsReading-due : (lost : Bool) (h : EndsReading lost begins ends) (closing : List Reply) → IsClosing state closing
