@@ -3,6 +3,7 @@
 
     checks/gate_table.py [--write] COMMAND..       as checks/gate_table.py --write .ci/run
     checks/gate_table.py [--write] --log FILE      of a gate that writes into FILE, and runs already or has ended
+    checks/gate_table.py --above                   what a change in each crate costs, by the table of docs/DECISIONS.md
 
 What `rt ci` prints has no times, so its processes are looked at four times a second. Each that runs `rattle` names its crate, and one that
 tries an edit stands in a folder of its own. Their times are those of the kernel, with those of processes that they have ended; what ends
@@ -12,6 +13,8 @@ It prints a row for each crate, as the table of docs/DECISIONS.md has them: its 
 the commit that is checked out. With --write it puts the rows there, and what the gate printed last into README.md. A proof, or edits, that
 the gate kept from an earlier run keep their minutes. A crate that is gone loses its row. Of a gate that has ended only what it printed is
 known. The exit status is that of the command. It needs Python 3 and Linux alone, and is no part of the gate.
+
+With --above it runs nothing. A change in a crate proves that crate and all that stand on it anew: the minutes of these are added up.
 """
 import argparse
 import os
@@ -151,14 +154,32 @@ def watched(command, log):
     return watch, "".join(printed), status
 
 
+def above():
+    """Of each crate how many stand on it, and the minutes of it and of these, the most first."""
+    minutes = {crate: float(proof or 0) + float(edits or 0) for crate, proof, edits, _ in ROW.findall(read(DECISIONS))}
+    below = {crate: names.split() for crate, names in re.findall(r"^(\w+)[^:\n]*:(.*)$", read(os.path.join(TOP, "crates.txt")), re.M)}
+
+    def stands_on(crate, lower):
+        return any(name == lower or stands_on(name, lower) for name in below.get(crate, []))
+
+    upper = {crate: [other for other in below if stands_on(other, crate)] for crate in below}
+    costs = {crate: sum(minutes.get(it, 0.0) for it in [crate, *upper[crate]]) for crate in below}
+    for crate in sorted(costs, key=lambda crate: -costs[crate]):
+        print(f"{costs[crate]:6.1f} min  {crate}, with the {len(upper[crate])} crates above it")
+
+
 def main():
     parser = argparse.ArgumentParser(description=__doc__, formatter_class=argparse.RawDescriptionHelpFormatter)
     parser.add_argument("--write", action="store_true")
     parser.add_argument("--log")
+    parser.add_argument("--above", action="store_true")
     parser.add_argument("command", nargs=argparse.REMAINDER)
     given = parser.parse_args()
-    if bool(given.command) == bool(given.log):
-        parser.error("give a command, or --log FILE")
+    if bool(given.command) + bool(given.log) + given.above != 1:
+        parser.error("give a command, --log FILE, or --above")
+    if given.above:
+        above()
+        return
     begun = time.monotonic()
     watch, printed, status = watched(given.command, given.log)
     clock = (time.monotonic() - begun) / 60

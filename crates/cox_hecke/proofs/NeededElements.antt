@@ -1,16 +1,13 @@
 -- Need(w) is a set of elements, and what a needed element needs is needed.
-use Rattle.std.specs.Prelude.{All}
-use Rattle.std.proofs.Common.{ℕ, List, ◌∷◌, ℤ, arith}
-use Rattle.std.proofs.lemmas.List.Elements.{All-weaker}
+use Rattle.std.proofs.Common.{ℕ, List, ◌∷◌, ℤ, refl, arith}
 use Rattle.cox_base.specs.declared.side.Side.TheVariants.{Left}
 use Rattle.cox_base.specs.IntegerMatrix.{IntegerMatrix}
 use Rattle.cox_base.specs.Admissible.{IsAdmissible}
 use Rattle.cox_base.specs.Element.{SameElement}
-use Rattle.cox_reflect.proofs.Elements.{same-refl, same-sym, same-trans, same-cons}
+use Rattle.cox_reflect.proofs.Elements.{same-sym, same-trans, same-cons}
 use Rattle.cox_reflect.proofs.Search.{word_length-equal}
 use Rattle.cox_reflect.specs.LeastDescent.{IsLeastLeftDescent}
 use Rattle.cox_hecke.specs.Step.{IsCorrection}
-use Rattle.cox_hecke.specs.StepFamily.{Correction, AreCorrections}
 use Rattle.cox_hecke.specs.Needs.{IsNeeded, itself, shorter, corrected}
 use Rattle.cox_hecke.proofs.AllRows.{mu-same}
 
@@ -34,14 +31,15 @@ module _ (A : IntegerMatrix) (g : IsAdmissible A) where
   needed-trans w z y n (shorter m d f) = shorter (needed-trans w z _ n m) d f
   needed-trans w z y n (corrected m d is) = corrected (needed-trans w z _ n m) d is
 
+-- ---- what is needed of all
+
+module _ (A : IntegerMatrix) where
   pub needed-self : (w : List ℕ) → IsNeeded A w w
-  needed-self w = itself (same-refl A g w)
+  needed-self w = itself record { equal = λ s t l k. refl }
 
   pub needed-shorter : (w : List ℕ) (s : ℕ) → IsLeastLeftDescent A w s → IsNeeded A w (s ∷ w)
-  needed-shorter w s d = shorter (needed-self w) d (same-refl A g (s ∷ w))
+  needed-shorter w s d = shorter (needed-self w) d record { equal = λ s t l k. refl }
 
-  pub needed-corrections : (w : List ℕ) (s : ℕ) → IsLeastLeftDescent A w s → (list : List Correction)
-      → AreCorrections Left A s (s ∷ w) list → All (λ c. IsNeeded A w c.element) list
-  needed-corrections w s d list are =
-      All-weaker (λ c. IsCorrection Left A s (s ∷ w) c.element c.mu) (λ c. IsNeeded A w c.element)
-      (λ c is. corrected (needed-self w) d is) list are.each
+  pub needed-corrected : (w : List ℕ) (s : ℕ) → IsLeastLeftDescent A w s → (u : List ℕ) (m : ℤ) → IsCorrection Left A s (s ∷ w) u m
+      → IsNeeded A w u
+  needed-corrected w s d u m is = corrected (needed-self w) d is

@@ -28,6 +28,7 @@ ghost use Rattle.cox_hecke.specs.ClosedLists.{IsClosedUnder};
 ghost use Rattle.cox_hecke.specs.Row.{IsRow, IsKazhdanLusztig, IsMu};
 ghost use Rattle.cox_hecke.specs.ListedElements.{ListsEach, LiesBetween};
 ghost use Rattle.cox_base.specs.SideDescents.{times_letter, IsDescent};
+ghost use Rattle.cox_hecke.specs.Step.{IsCorrection};
 ghost use Rattle.cox_hecke.specs.StepFamily.{step, Correction, AreCorrections, correction_sum, IsStepFamily};
 ghost use Rattle.cox_hecke.specs.Needs.{IsNeeded};
 
@@ -137,8 +138,7 @@ pub fn polynomials()
     ensures exists { (A : IntegerMatrix) → IsAdmissible A → (x w : List ℕ) → (f : Coefficients) × IsKazhdanLusztig A x w f }
     ensures unique { (A : IntegerMatrix) → IsAdmissible A → (x w : List ℕ) (f h : Coefficients) → IsKazhdanLusztig A x w f
         → IsKazhdanLusztig A x w h → (k : ℕ) → f k ≡ h k }
-    ensures row { (A : IntegerMatrix) → IsAdmissible A → (w : List ℕ) (p : Family) → IsRow A w p → (x : List ℕ)
-        → IsKazhdanLusztig A x w (p x) }
+    ensures row { (A : IntegerMatrix) (w : List ℕ) (p : Family) → IsRow A w p → (x : List ℕ) → IsKazhdanLusztig A x w (p x) }
     ensures elements { (A : IntegerMatrix) → IsAdmissible A → (x y v w : List ℕ) (f : Coefficients) → SameElement A x y → SameElement A v w
         → IsKazhdanLusztig A x v f → IsKazhdanLusztig A y w f }
     ensures outside { (A : IntegerMatrix) → IsAdmissible A → (x w : List ℕ) (f : Coefficients) → ¬ IsBelow A x w → IsKazhdanLusztig A x w f
@@ -182,13 +182,13 @@ pub fn recursion()
         → (f : Family) × IsStepFamily side A s w f }
 {}
 
-/// Need(w) is a set of elements: w, what the step to w by its least left descent starts from, and all that corrects this step. It has what
-/// each of its members needs.
+/// Need(w) is a set of elements. It has w, the element that the step to w by its least left descent starts from, and each element that
+/// corrects this step. It has what each of its members needs.
 pub fn needs()
-    ensures itself { (A : IntegerMatrix) → IsAdmissible A → (w : List ℕ) → IsNeeded A w w }
-    ensures shorter { (A : IntegerMatrix) → IsAdmissible A → (w : List ℕ) (s : ℕ) → IsLeastLeftDescent A w s → IsNeeded A w (s ∷ w) }
-    ensures enough { (A : IntegerMatrix) → IsAdmissible A → (w : List ℕ) (s : ℕ) → IsLeastLeftDescent A w s
-        → (list : List Correction) → AreCorrections Left A s (s ∷ w) list → All (λ c. IsNeeded A w c.element) list }
+    ensures itself { (A : IntegerMatrix) (w : List ℕ) → IsNeeded A w w }
+    ensures shorter { (A : IntegerMatrix) (w : List ℕ) (s : ℕ) → IsLeastLeftDescent A w s → IsNeeded A w (s ∷ w) }
+    ensures corrected { (A : IntegerMatrix) (w : List ℕ) (s : ℕ) → IsLeastLeftDescent A w s → (u : List ℕ) (m : ℤ)
+        → IsCorrection Left A s (s ∷ w) u m → IsNeeded A w u }
     ensures elements { (A : IntegerMatrix) → IsAdmissible A → (w y z : List ℕ) → SameElement A y z → IsNeeded A w y → IsNeeded A w z }
     ensures transitive { (A : IntegerMatrix) → IsAdmissible A → (w z y : List ℕ) → IsNeeded A w z → IsNeeded A z y → IsNeeded A w y }
 {}

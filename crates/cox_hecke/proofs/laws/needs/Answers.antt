@@ -1,5 +1,5 @@
 -- Each clause is a lemma on Need(w).
-use Rattle.cox_hecke.proofs.NeededElements.{needed-same, needed-trans, needed-self, needed-shorter, needed-corrections}
+use Rattle.cox_hecke.proofs.NeededElements.{needed-same, needed-trans, needed-self, needed-shorter, needed-corrected}
 use Rattle.cox_hecke.proofs.laws.needs.Goals as goal
 
 pub returns-clause-itself : goal.returns-clause-itself
@@ -8,8 +8,8 @@ returns-clause-itself c = needed-self
 pub returns-clause-shorter : goal.returns-clause-shorter
 returns-clause-shorter c = needed-shorter
 
-pub returns-clause-enough : goal.returns-clause-enough
-returns-clause-enough c = needed-corrections
+pub returns-clause-corrected : goal.returns-clause-corrected
+returns-clause-corrected c = needed-corrected
 
 pub returns-clause-elements : goal.returns-clause-elements
 returns-clause-elements c = needed-same

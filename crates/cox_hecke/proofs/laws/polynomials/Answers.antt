@@ -11,7 +11,7 @@ pub returns-clause-unique : goal.returns-clause-unique
 returns-clause-unique c = kazhdan_lusztig-unique
 
 pub returns-clause-row : goal.returns-clause-row
-returns-clause-row c = λ A g w p row x. record { row = p; is = row; at = λ k. refl }
+returns-clause-row c = λ A w p row x. record { row = p; is = row; at = λ k. refl }
 
 pub returns-clause-elements : goal.returns-clause-elements
 returns-clause-elements c = kazhdan_lusztig-same

@@ -1,16 +1,12 @@
 -- A parse without a fault gives the options by their definition.
 use Rattle.std.proofs.Common.{◌∙◌, ap, sym, not, map, codes, pos, Ok, Err, Result}
 use Rattle.std.specs.Prelude.{option_map, IfOk, IsOkAnd, MatchResult}
+use Rattle.std.proofs.lemmas.Result.{IfOk-weaker}
 use Rattle.clap.specs.Simple.{App}
 use Rattle.clap.specs.Walk.{is_empty}
 use Rattle.clap.specs.Words.{Kinds, fault_of, found_of, is_simple, is_simple_and_free}
 use Rattle.cox_options.proofs.Numbers.{options_read, given_read}
 use Rattle.cox_options.proofs.reading.read.Goals as goal
-
--- what follows for what a parse found
-for_found : {M E : Type 0} (answer : Result M E) {P Q : M → Type 0} → IfOk answer P → ((m : M) → P m → Q m) → IfOk answer Q
-for_found (Ok m) holds step = step m holds
-for_found (Err e) holds step = tt
 
 -- what follows for options, which there are only where a parse found them
 for_options : {M E O F : Type 0} (N : E → Type 0) (answer : Result M E) (result : Result O F) {P : M → Type 0} {Q : M → O → Type 0}
@@ -22,20 +18,20 @@ for_options N (Ok m) (Err f) holds by step = tt
 for_options N (Err e) (Err f) holds by step = tt
 
 pub options_by-requires-clause-context : goal.options_by-requires-clause-context
-options_by-requires-clause-context c = for_found c.try_get_matches_from.result c.try_get_matches_from.ensures.parsed
-    (λ m parsed. (options_read _ m parsed c.in-Ok.ensures).0)
+options_by-requires-clause-context c = IfOk-weaker c.try_get_matches_from.result _ _
+    (λ m parsed. (options_read _ m parsed c.in-Ok.ensures).0) c.try_get_matches_from.ensures.parsed
 
 pub options_by-requires-clause-roots : goal.options_by-requires-clause-roots
-options_by-requires-clause-roots c = for_found c.try_get_matches_from.result c.try_get_matches_from.ensures.parsed
-    (λ m parsed. (options_read _ m parsed c.in-Ok.ensures).1.0)
+options_by-requires-clause-roots c = IfOk-weaker c.try_get_matches_from.result _ _
+    (λ m parsed. (options_read _ m parsed c.in-Ok.ensures).1.0) c.try_get_matches_from.ensures.parsed
 
 pub options_by-requires-clause-coef : goal.options_by-requires-clause-coef
-options_by-requires-clause-coef c = for_found c.try_get_matches_from.result c.try_get_matches_from.ensures.parsed
-    (λ m parsed. (options_read _ m parsed c.in-Ok.ensures).1.1.0)
+options_by-requires-clause-coef c = IfOk-weaker c.try_get_matches_from.result _ _
+    (λ m parsed. (options_read _ m parsed c.in-Ok.ensures).1.1.0) c.try_get_matches_from.ensures.parsed
 
 pub options_by-requires-clause-workers : goal.options_by-requires-clause-workers
-options_by-requires-clause-workers c = for_found c.try_get_matches_from.result c.try_get_matches_from.ensures.parsed
-    (λ m parsed. (options_read _ m parsed c.in-Ok.ensures).1.1.1.0)
+options_by-requires-clause-workers c = IfOk-weaker c.try_get_matches_from.result _ _
+    (λ m parsed. (options_read _ m parsed c.in-Ok.ensures).1.1.1.0) c.try_get_matches_from.ensures.parsed
 
 pub returns-clause-taken : goal.returns-clause-taken
 returns-clause-taken c =
