@@ -62,8 +62,8 @@ pub fn keep_interval(
     keep_alone(alloc, kept, table, options, w)
 }
 
-/// Adds the elements below w to what is kept, if they fit beside it. If nothing is kept, they alone are kept. If memory runs out, nothing is
-/// kept any more.
+/// Adds the elements below w to what is kept, if they fit beside it. If nothing is kept, they alone are kept. If memory runs out, nothing
+/// is kept any more.
 pub fn add_interval(
     alloc: Global,
     kept: &mut Option<Rows>,
