@@ -89,19 +89,8 @@ impl Workspace {
         ensures group { IsCoxeterMatrix self.old.table }
     {
         prove!(self.rank() as usize <= MAX_RANK);
-        if self.kept.knows_whole_group()
-            && let Some(i) = self.number_of(w)
-        {
-            return Ok(i);
-        }
         self.take_group();
-        keep_interval(
-            alloc,
-            self.kept.change(),
-            self.roots.table(),
-            self.options,
-            w,
-        )
+        keep_interval(alloc, &mut self.kept, self.roots.table(), self.options, w)
     }
 
     /// Takes the whole group, if what is kept is a good part of it. No answer depends on it: members and rows that are kept stay.
@@ -118,7 +107,7 @@ impl Workspace {
         let table = self.roots.table();
         prove!(table.group().rank() as usize <= MAX_RANK);
         if let Some(longest) = longest_of_few(table) {
-            widen(self.kept.change(), table, self.options, &longest, most);
+            widen(&mut self.kept, table, self.options, &longest, most);
         }
     }
 
@@ -128,13 +117,7 @@ impl Workspace {
         ensures { IsSameWorkspace self.old self.new }
     {
         self.take_group();
-        add_interval(
-            alloc,
-            self.kept.change(),
-            self.roots.table(),
-            self.options,
-            w,
-        )
+        add_interval(alloc, &mut self.kept, self.roots.table(), self.options, w)
     }
 
     /// Makes sure that the rows of all elements of the group are kept.
