@@ -1,16 +1,24 @@
 //! The rows that are kept of a group, and what is known of all of them.
-ghost use Rattle.std.specs.Prelude.{◌≡◌, ℕ, ◌<◌, length, None, IsTrue, IfSome, IsSomeAnd};
+ghost use Rattle.std.specs.Prelude.{◌≡◌, ℕ, ◌<◌, ◌≤◌, length, None, IsTrue, IfSome, IfOk, IsSomeAnd};
 ghost use Rattle.std.specs.Borrow.{sem};
+ghost use Rattle.cox_base.specs.Matrix.{IsWord};
 ghost use Rattle.cox_base.specs.IntegerMatrix.{integer_matrix};
 ghost use Rattle.cox_context.specs.Closed.{IsClosed};
 ghost use Rattle.cox_context.specs.Numbers.{word_at};
 ghost use Rattle.cox_rows.specs.Beyond.{IsBeyond};
 ghost use Rattle.cox_rows.specs.Holding.{HasRow};
+ghost use Rattle.cox_replies.specs.Limits.{Limits};
+ghost use Rattle.cox_replies.specs.Listed.{RefusesLargeOr};
+ghost use Rattle.cox_replies.specs.Question.{IsRefused};
+ghost use Rattle.cox_answers.specs.Kept.{AreKept, HoldsElement};
 ghost use Rattle.cox_answers.specs.KeptBetween.{IsReadOff};
 ghost use Rattle.cox_answers.specs.LentRows.{LendsRows};
 
 use crate::answers::between::{find_whole, has_all};
+use cox_base::Word;
+use cox_context::{ContextFault, MAX_MEMBERS};
 use cox_inverse::LongestElement;
+use cox_minroots::RootTable;
 use cox_rows::Rows;
 use std::marker::Model;
 
@@ -70,6 +78,36 @@ impl KeptRows {
         &mut self.rows
     }
 
+    /// Adds the elements below w to the members, if there are any, and tells the number of w, as `Rows::extend` does. Where no member is
+    /// new, what was known of all rows is not forgotten.
+    pub fn extend(
+        &mut self,
+        table: &RootTable,
+        w: &Word,
+        limit: u32,
+    ) -> Option<Result<u32, ContextFault>>
+        requires word { IsWord table.now.rank w.now.items }
+        requires group { IfSome self.old (λ rows. table.now ≡ rows.elements.matrix) }
+        requires some { 1 ≤ limit }
+        requires limit { limit ≤ MAX_MEMBERS }
+        ensures kept { (limits : Limits) → limit ≤ limits.context → AreKept table.now limits self.old → AreKept table.now limits self.new }
+        ensures free { IfSome result (λ number. IfOk number (λ i. (limits : Limits) → limit ≤ limits.context
+            → AreKept table.now limits self.old → IsRefused (RefusesLargeOr limits (integer_matrix table.now) w.now.items ⊥) None)) }
+        ensures number { IfSome result (λ number. IfOk number
+            (λ i. IsSomeAnd self.new (HoldsElement (integer_matrix table.now) w.now.items i))) }
+    {
+        let known = self.whole;
+        let Some(rows) = self.change() else {
+            return None;
+        };
+        let before = rows.context().len();
+        let number = rows.extend(table, w, limit);
+        if rows.context().len() == before {
+            self.whole = known;
+        }
+        Some(number)
+    }
+
     /// What inverse polynomials are read off, if that was found.
     pub fn whole_group(&self) -> Option<LongestElement>
         ensures { IfSome result (λ group. IsSomeAnd self.now (λ rows. IsReadOff rows group)) }
@@ -81,7 +119,7 @@ impl KeptRows {
     }
 
     /// Whether it was looked for since the rows changed.
-    pub fn knows_whole_group(&self) -> bool {
+    fn knows_whole_group(&self) -> bool {
         matches!(self.whole, WholeGroup::LookedFor(_))
     }
 

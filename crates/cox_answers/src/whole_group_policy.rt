@@ -1,8 +1,8 @@
 //! When the whole group is taken in the place of interval after interval.
 ghost use Rattle.std.specs.Prelude.{◌≤◌, IfSome};
 
-/// How many members there are when the whole group is first tried. With fewer there is little to save: rows are cheap, and so is each growth
-/// of the context.
+/// How many members there are when the whole group is first tried. With fewer there is little to save: rows are cheap, and so is each
+/// growth of the context.
 const FIRST_TRY: u32 = 4_096;
 
 /// The whole group is taken if it has at most this many elements for each member. Then what is kept is a good part of it, and a try that

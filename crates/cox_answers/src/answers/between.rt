@@ -17,9 +17,9 @@ use cox_klstep::StepFault;
 use cox_rows::Rows;
 use std::alloc::Global;
 
-/// Where at least this many members lie between two, the rows of the whole group are made, if it is finite. Each inverse polynomial can then
-/// be read off one row. Otherwise it is summed up, in time in proportion to the square of the number of members: for this many, longer than
-/// it takes to make those rows.
+/// Where at least this many members lie between two, the rows of the whole group are made, if it is finite. Each inverse polynomial can
+/// then be read off one row. Otherwise it is summed up, in time in proportion to the square of the number of members: for this many, longer
+/// than it takes to make those rows.
 const MANY_BETWEEN: usize = 2_048;
 
 /// Whether there are many members between the two with these numbers.

@@ -7,6 +7,7 @@ ghost use Rattle.cox_replies.specs.SessionLimits.{limits_of};
 ghost use Rattle.cox_replies.specs.Listed.{RefusesLargeOr};
 ghost use Rattle.cox_answers.specs.Kept.{AreKept, HoldsElement, Keeps, IsMore};
 
+use crate::kept_rows::KeptRows;
 use crate::row_maker::RowMaker;
 use cox_base::{MAX_RANK, Word};
 use cox_context::{ContextFault, MAX_MEMBERS};
@@ -33,7 +34,7 @@ pub fn with_row<M: RowMaker>(alloc: Global, rows: Rows, maker: &M, i: u32) -> Ro
 /// What is kept grows by that interval. If both together are too large, the interval alone is kept from then on.
 pub fn keep_interval(
     alloc: Global,
-    kept: &mut Option<Rows>,
+    kept: &mut KeptRows,
     table: &RootTable,
     options: Options,
     w: &Word,
@@ -46,27 +47,21 @@ pub fn keep_interval(
     ensures group { IsCoxeterMatrix table.now }
 {
     prove!(table.group().rank() as usize <= MAX_RANK);
-    if let Some(rows) = kept {
-        match rows.extend(table, w, options.context()) {
-            Ok(i) => {
-                let _context = rows.context();
-                return Ok(i);
-            }
-            Err(ContextFault::NoMemory) => {
-                *kept = None;
-                return Err(Unanswered::NoMemory);
-            }
-            Err(_) => {}
+    match kept.extend(table, w, options.context()) {
+        Some(Ok(i)) => Ok(i),
+        Some(Err(ContextFault::NoMemory)) => {
+            *kept.change() = None;
+            Err(Unanswered::NoMemory)
         }
+        _ => keep_alone(alloc, kept.change(), table, options, w),
     }
-    keep_alone(alloc, kept, table, options, w)
 }
 
-/// Adds the elements below w to what is kept, if they fit beside it. If nothing is kept, they alone are kept. If memory runs out, nothing is
-/// kept any more.
+/// Adds the elements below w to what is kept, if they fit beside it. If nothing is kept, they alone are kept. If memory runs out, nothing
+/// is kept any more.
 pub fn add_interval(
     alloc: Global,
-    kept: &mut Option<Rows>,
+    kept: &mut KeptRows,
     table: &RootTable,
     options: Options,
     w: &Word,
@@ -75,23 +70,21 @@ pub fn add_interval(
     requires kept { AreKept table.now (limits_of options) kept.old }
     ensures { AreKept table.now (limits_of options) kept.new }
 {
-    if let Some(rows) = kept {
-        match rows.extend(table, w, options.context()) {
-            Err(ContextFault::NoMemory) => {
-                *kept = None;
-                return Err(AllocError);
-            }
-            _ => return Ok(()),
+    match kept.extend(table, w, options.context()) {
+        Some(Err(ContextFault::NoMemory)) => {
+            *kept.change() = None;
+            Err(AllocError)
         }
-    }
-    match keep_alone(alloc, kept, table, options, w) {
-        Err(Unanswered::NoMemory) => Err(AllocError),
-        _ => Ok(()),
+        Some(_) => Ok(()),
+        None => match keep_alone(alloc, kept.change(), table, options, w) {
+            Err(Unanswered::NoMemory) => Err(AllocError),
+            _ => Ok(()),
+        },
     }
 }
 
 /// Adds the elements below w to what is kept, if it has at most `most` members then. Otherwise nothing changes.
-pub fn widen(kept: &mut Option<Rows>, table: &RootTable, options: Options, w: &Word, most: u32)
+pub fn widen(kept: &mut KeptRows, table: &RootTable, options: Options, w: &Word, most: u32)
     requires word { IsWord table.now.rank w.now.items }
     requires some { 1 ≤ most }
     requires limit { most ≤ options.context }
@@ -99,10 +92,7 @@ pub fn widen(kept: &mut Option<Rows>, table: &RootTable, options: Options, w: &W
     ensures { AreKept table.now (limits_of options) kept.new }
 {
     prove!(options.context() <= MAX_MEMBERS);
-    if let Some(rows) = kept {
-        let _context = rows.context();
-        let _ = rows.extend(table, w, most);
-    }
+    let _ = kept.extend(table, w, most);
 }
 
 /// Keeps the interval from the identity to w alone, with no rows, and returns the number of w there. What was kept is given up first.

@@ -43,9 +43,9 @@ returns-clause-rows g c =
     let options : c.self.inside.options ≡ c.args.self.now.options = ap (λ (work : WorkspaceState). work.options) c.self.view_is in
     let told = c.in_ok-ends.ensures {u = tt} in
     let ends = c.in_ok-ends.ends in
-    let some : c.gather.new.self.rows ≡ Some c.in-Some.rows = sym (ap (λ (work : WorkspaceState). work.rows) c.self-2.view_is)
+    let some : c.make_group_if_many.new.self.rows ≡ Some c.in-Some.rows = sym (ap (λ (work : WorkspaceState). work.rows) c.self-2.view_is)
     ∙ sym (c.take.ensures.value ∙ c.change-kept.ensures.rows) ∙ c.in-Some.is in
-    let taken = are-taken G limits y w ends c.gather.new.self.rows c.in-Some.rows (rw (table, options) at told.kept)
+    let taken = are-taken G limits y w ends c.make_group_if_many.new.self.rows c.in-Some.rows (rw (table, options) at told.kept)
     (rw (table, options) at told.interval) some in
     let closed : IsClosed A c.in-Some.rows.elements.members = rw taken.of.group at c.context.ensures.closed in
     let listed = c.in_ok-between.ensures {u = tt} in

@@ -1,4 +1,4 @@
--- The proof of `gather`.
+-- The proof of `make_group_if_many`.
 use Rattle.std.proofs.lemmas.Result.{err_from_is_err_and}
 use Rattle.cox_base.specs.IntegerMatrix.{integer_matrix}
 use Rattle.cox_base.proofs.AdmissibleMatrices.{IsAdmissible-integer_matrix}
@@ -10,7 +10,7 @@ use Rattle.cox_answers.specs.Kept.{HoldsElement}
 use Rattle.cox_answers.specs.KeptBetween.{HoldsEnds}
 use Rattle.cox_answers.proofs.Makes.{Keeps-unkept}
 use Rattle.cox_answers.proofs.KeptBetween.{ends-few}
-use Rattle.cox_answers.proofs.workspace.Workspace.gather.Goals as goal
+use Rattle.cox_answers.proofs.workspace.Workspace.make_group_if_many.Goals as goal
 
 pub returns-then-not-is_large-clause-interval : goal.returns-then-not-is_large-clause-interval
 returns-then-not-is_large-clause-interval g c =
