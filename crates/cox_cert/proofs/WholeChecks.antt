@@ -8,7 +8,7 @@ use Rattle.cox_outside.specs.declared.limits.TheConstants.{INPUT_LIMIT}
 use Rattle.cox_outside.specs.FaultCount.{count_after}
 use Rattle.cox_outside.specs.Supply.{Supply, SourceCause}
 use Rattle.cox_outside.specs.Outlet.{Outlet}
-use Rattle.cox_outside.proofs.Known.{prepend_known-none, Writes-none}
+use Rattle.cox_outside.proofs.Known.{prepend_known-none}
 use Rattle.cox_cert.specs.declared.status.Cause.{Cause}
 use Rattle.cox_cert.specs.declared.status.Cause.TheVariants.{Grammar, Top, Interval, Size, Row}
 use Rattle.cox_cert.specs.declared.status.CheckStatus.{CheckStatus}
@@ -92,19 +92,6 @@ check-words status words others source left old new forth back h = record {
     room = c.room;
   };
   within = h.within;
-}
-
--- memory ran out before anything was read or written, and no words follow the name
-pub check-none : (supply : Supply) (outlet : Outlet) → IsCheck NoMemory [] supply supply outlet outlet
-check-none supply outlet = record {
-  says = tt;
-  usage = λ e. cc e;
-  usage_always = λ some. absurd (some refl);
-  read_fault = record { faults = refl; same_sure = refl; unsure = λ e. cc e };
-  write_fault = refl;
-  writes = λ told. Writes-none outlet;
-  cut = λ e. cc e;
-  within = ([], sym (prepend_known-none supply.left), omega arith);
 }
 
 -- where words follow the name, the usage line is told, or a write failed, and nothing was read

@@ -27,8 +27,8 @@ pub(crate) fn judge(alloc: Global, draft: &Draft) -> CheckStatus
     }
 }
 
-/// The first cause that applies to the parts of a certificate, if one does. That the element is not given by its normal form, or is too long,
-/// is told without memory.
+/// The first cause that applies to the parts of a certificate, if one does. That the element is not given by its normal form, or is too
+/// long, is told without memory.
 fn first_cause(alloc: Global, draft: &Draft) -> Result<Option<Cause>, AllocError>
     requires { HasCertificate draft.now }
     ensures first { IfOk result (λ cause. (c : Certificate) → IsCertificate c → IsDraftOf draft.now c → IsFirst cause c) }

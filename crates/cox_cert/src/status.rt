@@ -66,6 +66,7 @@ impl CheckStatus {
             CheckStatus::InputLimit => 6,
         }
     }
+
     /// What is written of it where no write fails: one line, or nothing.
     pub fn text(self) -> &'static [u8]
         ensures { result.now ≡ status_text self }

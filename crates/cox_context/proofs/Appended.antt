@@ -49,8 +49,8 @@ module _ (c : CoxeterMatrix) (m : IsCoxeterMatrix c) (words : List (List ℕ)) (
   outside-none o =
       ⊎_elim (λ there. o.absent there)
       (λ is. omega (arith, ap length is, o.short, sym (word_length-is (integer_matrix c) (s ∷ word_at words j)), up.reduced))
-      (next.below o.word o.element (below-same (integer_matrix c) g (same-refl (integer_matrix c) g o.word) (same-sym (integer_matrix c) g same)
-      o.below))
+      (next.below o.word o.element (below-same (integer_matrix c) g (same-refl (integer_matrix c) g o.word)
+      (same-sym (integer_matrix c) g same) o.below))
 
   module _ (lower : List ℕ) (are : AreLower (integer_matrix c) words (s ∷ word_at words j) lower) where
     -- s shortens it

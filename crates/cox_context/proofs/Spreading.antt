@@ -47,7 +47,8 @@ contains-last words y word e = placed-contains (words ++ y ∷ []) word (record 
 pub contains_cases : (words : List (List ℕ)) (y word : List ℕ) → Contains (words ++ y ∷ []) word → Contains words word ⊎ (y ≡ word)
 contains_cases words y word c =
     let p = contains-placed (words ++ y ∷ []) word c
-    in ⊎_elim (λ below. inl (placed-contains words word (record { i = p.i; within = below; is = sym (word_at-old words y p.i below) ∙ p.is })))
+    in ⊎_elim
+    (λ below. inl (placed-contains words word (record { i = p.i; within = below; is = sym (word_at-old words y p.i below) ∙ p.is })))
     (λ last. inr (sym (word_at-new words y p.i last) ∙ p.is)) (push_cases words y p.i p.within)
 
 -- distinct words, and one that is none of them
@@ -140,7 +141,8 @@ module _ (A : IntegerMatrix) (g : IsAdmissible A) (s : ℕ) (v : List ℕ) (lett
   module _ (x : List ℕ) (b : IsBelow A x v) (above : IsBelow A (normal_form A (s ∷ x)) v → ⊥) where
     ascends : IsLeftDescent A x s → ⊥
     ascends down =
-        above (below-trans A g (below-same A g (same-sym A g (normal_form-same A g (s ∷ x))) (same-refl A g x) (below-descent A g x s down)) b)
+        above (below-trans A g (below-same A g (same-sym A g (normal_form-same A g (s ∷ x))) (same-refl A g x)
+        (below-descent A g x s down)) b)
 
     longer : word_length A (s ∷ x) ≡ word_length A x + 1
     longer = ⊎_elim (λ up. up) (λ down. absurd (ascends (omega (arith, down)))) (left_length A g s x letter)
@@ -237,7 +239,11 @@ module _ (A : IntegerMatrix) (g : IsAdmissible A) (s : ℕ) (v : List ℕ) (lett
           (λ (more : size ≤ q). go (h.later q more l)) (cases_lt q size)
         where
           go : IsShifted A s v j found (word_at found q) → ⊥
-          go k = absurd (omega (arith, k.before, h.upward j k.i (omega (arith, inside, h.many)) (omega (arith, k.before, inside, h.many)) lower))
+          go k = absurd (omega (
+            arith,
+            k.before,
+            h.upward j k.i (omega (arith, inside, h.many)) (omega (arith, k.before, inside, h.many)) lower,
+          ))
             where
               u : List ℕ
               u = word_at found k.i

@@ -20,7 +20,8 @@ pub record IsTopWord (c : CoxeterMatrix) (top : List ℕ) : Type 0 where
 -- s x is no member, for the member x with the number j, but each element below it is, and so it may be the next one
 pub record IsNextMember (c : CoxeterMatrix) (words : List (List ℕ)) (s j : ℕ) : Type 0 where
   pub none : Contains words (normal_form (integer_matrix c) (s ∷ word_at words j)) → ⊥
-  pub below : (z : List ℕ) → IsElement (integer_matrix c) z → IsBelow (integer_matrix c) z (normal_form (integer_matrix c) (s ∷ word_at words j))
+  pub below : (z : List ℕ) → IsElement (integer_matrix c) z
+      → IsBelow (integer_matrix c) z (normal_form (integer_matrix c) (s ∷ word_at words j))
       → Contains words z ⊎ (normal_form (integer_matrix c) (s ∷ word_at words j) ≡ z)
   pub closed : length words < MAX_MEMBERS
       → IsClosed (integer_matrix c) (words ++ normal_form (integer_matrix c) (s ∷ word_at words j) ∷ [])

@@ -4,8 +4,7 @@ use Rattle.cox_base.specs.Matrix.{IsLetter}
 use Rattle.cox_context.specs.Shifts.{entry, entry_number}
 
 -- The new table has the old entries and, for the letters before next, those of the member n, which are given. Where such an entry is k,
--- that of the
--- member k for the letter is n.
+-- that of the member k for the letter is n.
 pub record IsRowPushed (rank n : ℕ) (lower : List ℕ) (next : ℕ) (old new : List ℕ) : Type 0 where
   pub size : length new ≡ n * rank + (next - 1)
   pub row : (t : ℕ) → IsLetter rank t → t < next → entry rank new t n ≡ entry rank lower t 0

@@ -1,4 +1,5 @@
--- Elements below an element, in the order in which they are found, and members that are marked while new ones are appended behind the others.
+-- Elements below an element, in the order in which they are found, and members that are marked while new ones are appended behind the
+-- others.
 use Rattle.std.specs.Prelude.{◌≡◌, ◌⊎◌, ℕ, ◌<◌, ◌≤◌, ◌↔◌, Bool, true, false, List, [], ◌∷◌, ◌++◌, length, map, slice_index, slice_index_or}
 use Rattle.std.specs.Prelude.{Contains}
 use Rattle.cox_base.specs.IntegerMatrix.{IntegerMatrix}

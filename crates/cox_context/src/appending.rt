@@ -1,9 +1,9 @@
 //! Appends the elements below an element behind the members that are there, which keep their numbers.
 //!
-//! Let w = s v with l(w) = l(v) + 1. The elements below w are those below v and the s x with x below v. So the letters of w are taken from the
-//! last one on. The members below v are listed and marked, and for each of them, in the order of the list, s x is put behind the others in
-//! that list, where it is not marked, and is appended where it is no member yet. Then each element below s x stands before it in the list: it
-//! is below x, or it is s z with z below x. So the members stay closed downwards, and their numbers rise in Bruhat order.
+//! Let w = s v with l(w) = l(v) + 1. The elements below w are those below v and the s x with x below v. So the letters of w are taken from
+//! the last one on. The members below v are listed and marked, and for each of them, in the order of the list, s x is put behind the others
+//! in that list, where it is not marked, and is appended where it is no member yet. Then each element below s x stands before it in the
+//! list: it is below x, or it is s z with z below x. So the members stay closed downwards, and their numbers rise in Bruhat order.
 //!
 //! Nothing here goes through all members but the making of the marks. So a growth costs time in proportion to the new members and the rank,
 //! and to the elements below the ends of w together.
@@ -105,8 +105,8 @@ impl Found {
         Ok(Found { numbers, marks })
     }
 
-    /// Finds s x, for the member x at this place of the list: it is put behind the others in the list, if it is not there, and appended to the
-    /// members, where it is none.
+    /// Finds s x, for the member x at this place of the list: it is put behind the others in the list, if it is not there, and appended to
+    /// the members, where it is none.
     fn find(
         &mut self,
         context: &mut Context,
@@ -120,7 +120,8 @@ impl Found {
         requires room { length context.old.members ≤ limit }
         requires marked { AreMarked context.old.members self.old.marks.items self.old.numbers.items }
         requires next { (Contains context.old.members
-            (normal_form (integer_matrix context.old.matrix) (s ∷ word_at context.old.members (slice_index self.old.numbers.items place))) → ⊥)
+            (normal_form (integer_matrix context.old.matrix)
+            (s ∷ word_at context.old.members (slice_index self.old.numbers.items place))) → ⊥)
             → IsNextMember context.old.matrix context.old.members s (slice_index self.old.numbers.items place) }
         ensures matrix { context.new.matrix ≡ context.old.matrix }
         ensures members { IsGrownBy

@@ -88,9 +88,8 @@ IsVoidForGood needs = (before later : List Event) (a i : ℕ)
     → reply_after needs before (Event.Void a i) ≡ Reply.Voided
     → IsForGood needs (before ++ Event.Void a i ∷ later) i RowState.Void
 
--- an actor has seen a row Published once a claim or a look told it so, once it made the row itself, or once another that had seen
--- it told it;
--- from then on the row stays so, whoever asks, and the actor has seen it for good
+-- an actor has seen a row Published once a claim or a look told it so, once it made the row itself, or once another that had seen it told
+-- it; from then on the row stays so, whoever asks, and the actor has seen it for good
 pub record SeenStays (needs : ℕ → List ℕ) : Type 0 where
   pub by_claim : (events : List Event) (a i : ℕ) → reply_after needs events (Event.Claim a i) ≡ Reply.Lost RowState.Published
       → (reached needs (events ++ Event.Claim a i ∷ [])).seen a i ≡ true

@@ -132,8 +132,8 @@ pub fn rows()
         → (k : ℕ) → flip (word_length A w - word_length A x) (p x) k ≡ bar_sum A words p x k }
 {}
 
-/// There is exactly one P(x,w): what every row of w has at x. It depends on the elements alone, and is 0 unless x <= w. P(sx,w) = P(x,w) for
-/// each left descent s of w, P(xs,w) = P(x,w) for each right descent, and P(x,w) = P(x^-1,w^-1).
+/// There is exactly one P(x,w): what every row of w has at x. It depends on the elements alone, and is 0 unless x <= w. P(sx,w) = P(x,w)
+/// for each left descent s of w, P(xs,w) = P(x,w) for each right descent, and P(x,w) = P(x^-1,w^-1).
 pub fn polynomials()
     ensures exists { (A : IntegerMatrix) → IsAdmissible A → (x w : List ℕ) → (f : Coefficients) × IsKazhdanLusztig A x w f }
     ensures unique { (A : IntegerMatrix) → IsAdmissible A → (x w : List ℕ) (f h : Coefficients) → IsKazhdanLusztig A x w f

@@ -82,8 +82,8 @@ module _ (A : IntegerMatrix) (g : IsAdmissible A) (members : List (List ℕ)) (c
     own-small m l are = none-large A g members closed m l limit least values.extremal.items values.places values.pool are.extremal
         are.polynomials small
 
-    values-small : (view : Option SharedPolynomials) (v : List ℕ) → ServesFor A members (word_at members i) view v → AreValuesOf A members v values
-        → (x : List ℕ) → IsWithinLimit A limit x (word_at members i)
+    values-small : (view : Option SharedPolynomials) (v : List ℕ) → ServesFor A members (word_at members i) view v
+        → AreValuesOf A members v values → (x : List ℕ) → IsWithinLimit A limit x (word_at members i)
     values-small None v e are = own-small i inside (rw e at are)
     values-small (Some view) v (is, e) are = view-small view is (own-small view.member is.within (rw e at are))
 

@@ -27,8 +27,9 @@ struct Choice {
     corrections: usize,
 }
 
-/// Of the steps to the member with the number i by its descents on both sides that with the fewest corrections, among those whose rows are
-/// there. Ties go to the first: to the step by the least left descent, and then to the least letter, on the left before the right.
+/// The step to the member with the number i. Of the steps by its descents on both sides whose rows are at hand, the one with the fewest
+/// corrections is taken. Ties go to the first: to the step by the least left descent, and then to the least letter, on the left before the
+/// right.
 pub(crate) fn step_with_fewest_corrections<L: LowerRows>(
     alloc: Global,
     ctx: &Context,

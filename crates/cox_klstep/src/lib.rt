@@ -2,8 +2,8 @@
 //!
 //! For a descent s of w on the left, v = sw, and an extremal x <= w, P(x,w) is P(sx,v) + q P(x,v), less the sum of mu(u,v)
 //! q^((l(w)-l(u))/2) P(x,u) over the u with su < u (Kazhdan and Lusztig 1979, 2.2.c; Humphreys 7.11); and the same on the right. Of the
-//! steps by all descents whose rows are there that with the fewest corrections is taken. Where the row of the inverse of w is there, or
-//! that of another image under a symmetry, P(x,w) is read off that (`cox_row_symmetry`). What is found of a row is put together by
+//! steps whose rows are at hand, the one with the fewest corrections is taken. Where the row of the inverse of w is there, or that of
+//! another image under a symmetry, P(x,w) is read off that (`cox_row_symmetry`). What is found of a row is put together by
 //! `cox_row_builder`.
 //!
 //! - `member`: the row of a member, and the rows that a row is made from

@@ -38,7 +38,7 @@ pub struct Options {
     pub(crate) roots: u32,
     // How large a coefficient may be in absolute value, from 1 to `MAX_COEF`.
     pub(crate) coef: i64,
-    // How many workers make rows, from 1 to `MAX_WORKERS`.
+    // How many workers make rows and answer blocks of lists, from 1 to `MAX_WORKERS`.
     pub(crate) workers: u32,
     ghost context_in_range: { (1 ≤ context) × (context ≤ MAX_CONTEXT) },
     ghost roots_in_range: { (1 ≤ roots) × (roots ≤ MAX_ROOTS) },
@@ -76,7 +76,7 @@ impl Options {
         self.coef
     }
 
-    /// How many workers make rows, from 1 to `MAX_WORKERS`. No answer depends on it.
+    /// How many workers make rows and answer blocks of lists, from 1 to `MAX_WORKERS`. No answer depends on it.
     pub fn workers(&self) -> u32
         ensures workers { result ≡ self.now.workers }
         ensures least { 1 ≤ result }

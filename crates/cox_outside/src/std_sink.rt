@@ -32,7 +32,7 @@ impl<W: Write> Sink for StdSink<W> {
 
     ghost seen = { std_outlet };
 
-    /// Asks the writer once, and hands on what it answers, save that it takes nothing as a fault.
+    /// Asks the writer once, and hands on what it answers; but where the writer takes no byte, that is a fault.
     fn write(&mut self, bytes: &[u8]) -> Took
         requires { 0 < length bytes.now }
         ensures writer { HandsOn result bytes.now (W.contents (writer_of self.old)) (W.contents (writer_of self.new)) }

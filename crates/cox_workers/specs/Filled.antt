@@ -21,8 +21,8 @@ HasSeenEnd seat i = HasSeen seat i ⊎ HasSeenVoid seat i
 abbrev pub IsNeededForSome : Elements → List ℕ → ℕ → Type 0
 IsNeededForSome e wanted j = (p : ℕ) × (p < length wanted) × IsNeededAt e (number_at wanted p) j
 
--- it is the same seat, none was split from it, and it met none; it holds what it held, has seen all that it had seen, has published and
--- voided only rows that wanted ones need, and has published none before those that it is made from
+-- it is the same seat, none was split from it, and it met none; it holds what it held and has seen all that it had seen; it has published
+-- and voided only rows that wanted ones need, and of each row that it published it has seen Published all rows that this one is made from
 pub record IsSeatGrown (e : Elements) (wanted : List ℕ) (old new : Seat) : Type 0 where
   pub same : IsSameSeat old new
   pub seats : TellsSameSeats (view_of old) (view_of new)
@@ -62,7 +62,7 @@ pub record IsFilled (store : RowStore) (Place : ℕ → Type 0) (wanted : List �
   pub seen : SeesAll (view_of old) (view_of new)
   -- it, and the seats that it met, published and voided only rows that wanted ones need
   pub ended : (j : ℕ) → HasEnded new j → HasEnded old j ⊎ IsNeededForSome (elements_of store) wanted j
-  -- and published none before those that it is made from
+  -- of each row that it or they published, it has seen Published all rows that this one is made from
   pub made : MadeOfSeen (elements_of store) old new
   -- it has seen each row that is wanted at such a place Published or Void
   pub settled : (p : ℕ) → p < length wanted → Place p → HasSeenEnd new (number_at wanted p)

@@ -26,12 +26,14 @@ HoldsFrom seat i = (j : ℕ) → Holds seat j → i ≤ j
 abbrev pub HasEnded : Seat → ℕ → Type 0
 HasEnded seat j = (has_published (view_of seat) j || has_voided (view_of seat) j) ≡ true
 
--- each row that the seat has published since, it has published after those that the row is made from
+-- of each row that the seat, or one that it met, has published since: in the end the seat has seen Published all rows that this one is
+-- made from
 abbrev pub MadeOfSeen : Elements → Seat → Seat → Type 0
 MadeOfSeen e old new = (j : ℕ) → has_published (view_of new) j ≡ true → (has_published (view_of old) j ≡ true) ⊎ HasNeeds e (HasSeen new) j
 
--- it is the same seat, none was split from it, and it met none; it holds what it held and has seen what it had seen, has voided and
--- published rows of Need(w) alone, where w is member i, and has published none before those that it is made from
+-- it is the same seat, none was split from it, and it met none; it holds what it held and has seen what it had seen; it has voided and
+-- published rows of Need(w) alone, where w is member i, and of each row that it published it has seen Published all rows that this one is
+-- made from
 pub record IsSeatKept (e : Elements) (i : ℕ) (old new : Seat) : Type 0 where
   pub same : IsSameSeat old new
   pub splits : splits_of new ≡ splits_of old

@@ -1,8 +1,8 @@
 //! Workers that fill a store of rows.
 //!
-//! A worker claims the row of a member, makes it from the rows that the recursion asks for, and publishes it; rows that another worker has
-//! claimed it waits for. It holds a claim only on rows with greater numbers than the row that it waits for. A row that it cannot make it
-//! gives up.
+//! A worker claims the row of a member, makes it from the rows that the recursion asks for, and publishes it. It waits for rows that
+//! another worker has claimed. It holds a claim only on rows with greater numbers than the row that it waits for. It gives up a row that it
+//! cannot make.
 //!
 //! Of the calls for one row: `settle` sees it Published or Void; `make_free` makes it if nobody has claimed it; `ensure` claims, makes and
 //! publishes it, or waits for the worker that has claimed it; `provide` makes it after what it needs, as far as nobody has claimed that;

@@ -12,8 +12,8 @@ use cox_base::Word;
 use cox_minroots::RootTable;
 
 impl Context {
-    /// Where the element that a word names stands: its number, or its normal form where it is no member. In A 2, with the identity and `1` as
-    /// members, `212` is outside, and its normal form is `121`.
+    /// Where the element that a word names stands: its number, or its normal form where it is no member. In A 2, with the identity and `1`
+    /// as members, `212` is outside, and its normal form is `121`.
     ///
     /// By right shifts, letter by letter, and by the normal form where one of these leads to no member.
     pub fn look_up(&self, group: &RootTable, word: &Word) -> Standing

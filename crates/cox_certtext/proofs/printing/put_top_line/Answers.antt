@@ -10,4 +10,5 @@ returns-in_err-put_text c =
 
 pub returns : goal.returns
 returns c =
-    Puts-second _ (codes "\nelement ") (word_text c.args.rank c.args.top.now.items) _ _ _ c.in_ok-put_text.ensures.text c.put_element.ensures
+    Puts-second _ (codes "\nelement ") (word_text c.args.rank c.args.top.now.items) _ _ _ c.in_ok-put_text.ensures.text
+    c.put_element.ensures

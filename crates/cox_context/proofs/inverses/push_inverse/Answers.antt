@@ -32,7 +32,8 @@ pub returns-clause-size : goal.returns-clause-size
 returns-clause-size c = λ some. omega (
   arith,
   c.push_row.ensures.size,
-  last-place c.args.shifts.now.members c.members.result.now c.len-last.result c.members.ensures c.len-last.ensures.len c.len-last.ensures.some,
+  last-place c.args.shifts.now.members c.members.result.now c.len-last.result c.members.ensures c.len-last.ensures.len
+      c.len-last.ensures.some,
 )
 
 pub returns-clause-kept : goal.returns-clause-kept

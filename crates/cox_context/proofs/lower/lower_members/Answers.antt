@@ -36,7 +36,8 @@ loop-t-preserved c =
           let none = rw w.in_default.is at c.in_ok-k.ensures.lower
           in rw w.lower-is (entries-skip c.args.shifts.now.matrix.rank
           (λ q x. IsLower (integer_matrix c.args.shifts.now.matrix) c.args.shifts.now.members
-          (c.args.s ∷ word_at c.args.shifts.now.members c.args.i) q x) c.loop-t.t (c.loop-t.t + 1) c.loop-t.lower refl c.loop-t.invariant none)
+          (c.args.s ∷ word_at c.args.shifts.now.members c.args.i) q x) c.loop-t.t (c.loop-t.t + 1) c.loop-t.lower refl c.loop-t.invariant
+          none)
     ]
 
 pub returns-clause-lower : goal.returns-clause-lower

@@ -14,7 +14,8 @@ loop-s-preserved c =
     c.simple.result
     c.insert.new.self c.loop-s.invariant
     (record { from_one = c.loop-s.auto.s; to_rank = omega (arith, c.loop-s-test.true, c.rank.ensures.rank) }) c.simple.ensures.root
-    c.simple.ensures.coroot (search rules) (search rules) c.simple.ensures.small c.simple.ensures.small_coroot c.in_ok-insert.ensures.inserted
+    c.simple.ensures.coroot (search rules) (search rules) c.simple.ensures.small c.simple.ensures.small_coroot
+    c.in_ok-insert.ensures.inserted
 
 pub returns-clause-small : goal.returns-clause-small
 returns-clause-small c = c.loop-s.invariant.small

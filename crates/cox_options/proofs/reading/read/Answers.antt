@@ -45,7 +45,8 @@ pub returns-clause-context : goal.returns-clause-context
 returns-clause-context c =
     let words = map (λ word. word.now) c.args.words.now in
     for_options _ c.try_get_matches_from.result c.options_by.result c.try_get_matches_from.ensures.matches c.options_by.ensures.context
-    (λ m o matches read. given_read _ words (found_of m) (codes "context") c.in-Ok.ensures (matches (ap is_simple c.in-Ok.ensures)).0 ∙ read)
+    (λ m o matches read. given_read _ words (found_of m) (codes "context") c.in-Ok.ensures (matches (ap is_simple c.in-Ok.ensures)).0
+    ∙ read)
 
 pub returns-clause-roots : goal.returns-clause-roots
 returns-clause-roots c =
@@ -57,10 +58,12 @@ pub returns-clause-coef : goal.returns-clause-coef
 returns-clause-coef c =
     let words = map (λ word. word.now) c.args.words.now in
     for_options _ c.try_get_matches_from.result c.options_by.result c.try_get_matches_from.ensures.matches c.options_by.ensures.coef
-    (λ m o matches read. ap (option_map pos) (given_read _ words (found_of m) (codes "coef") c.in-Ok.ensures (matches (ap is_simple c.in-Ok.ensures)).0) ∙ read)
+    (λ m o matches read. ap (option_map pos) (given_read _ words (found_of m) (codes "coef") c.in-Ok.ensures
+    (matches (ap is_simple c.in-Ok.ensures)).0) ∙ read)
 
 pub returns-clause-workers : goal.returns-clause-workers
 returns-clause-workers c =
     let words = map (λ word. word.now) c.args.words.now in
     for_options _ c.try_get_matches_from.result c.options_by.result c.try_get_matches_from.ensures.matches c.options_by.ensures.workers
-    (λ m o matches read. given_read _ words (found_of m) (codes "workers") c.in-Ok.ensures (matches (ap is_simple c.in-Ok.ensures)).0 ∙ read)
+    (λ m o matches read. given_read _ words (found_of m) (codes "workers") c.in-Ok.ensures (matches (ap is_simple c.in-Ok.ensures)).0
+    ∙ read)

@@ -6,6 +6,7 @@ use Rattle.cox_poly.proofs.polynomial_text.put_polynomial.Given as goal
 
 abbrev pub invariant-loop-k : goal.invariant-loop-k
 invariant-loop-k l = record {
-  written : Written l.initial.out.items l.out.items (polynomial_text l.coefficients) (rest_text l.first (terms_from l.k (drop l.k l.coefficients)));
+  written : Written l.initial.out.items l.out.items (polynomial_text l.coefficients)
+      (rest_text l.first (terms_from l.k (drop l.k l.coefficients)));
   capacity : vec_capacity l.initial.out ≤ vec_capacity l.out;
 }

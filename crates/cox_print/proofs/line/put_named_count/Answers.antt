@@ -14,5 +14,5 @@ returns-in_err-put_text-2 c =
 
 pub returns : goal.returns
 returns c =
-    Puts-third_of_three _ c.args.name.now (codes " ") (decimal c.args.n) _ _ _ _ c.in_ok-put_text.ensures.text c.in_ok-put_text-2.ensures.text
-    c.put_natural.ensures
+    Puts-third_of_three _ c.args.name.now (codes " ") (decimal c.args.n) _ _ _ _ c.in_ok-put_text.ensures.text
+    c.in_ok-put_text-2.ensures.text c.put_natural.ensures

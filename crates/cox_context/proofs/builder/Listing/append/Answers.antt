@@ -4,8 +4,8 @@ use Rattle.cox_context.proofs.Appended.{outside-none, none-missing, first-word, 
 use Rattle.cox_context.proofs.builder.Listing.append.Goals as goal
 
 pub unreachable-requires : goal.unreachable-requires
-unreachable-requires c = outside-none c.args.group.now c.rank-rank.ensures.matrix c.args.self.now.members c.requires.closed c.args.s c.args.j
-    c.requires.letter c.requires.member c.requires.next (rw c.shifts.ensures at c.in_default.ensures.outside)
+unreachable-requires c = outside-none c.args.group.now c.rank-rank.ensures.matrix c.args.self.now.members c.requires.closed c.args.s
+    c.args.j c.requires.letter c.requires.member c.requires.next (rw c.shifts.ensures at c.in_default.ensures.outside)
 
 pub unreachable-requires-in_default-first_lower : goal.unreachable-requires-in_default-first_lower
 unreachable-requires-in_default-first_lower c = none-missing c.args.group.now c.rank-rank.ensures.matrix c.args.self.now.members
@@ -13,9 +13,9 @@ unreachable-requires-in_default-first_lower c = none-missing c.args.group.now c.
     (rw c.shifts.ensures at c.in-Ok.ensures.lower) (rw c.rank-rank.ensures.rank at c.in_default-first_lower.ensures.none)
 
 pub push-requires-clause-short : goal.push-requires-clause-short
-push-requires-clause-short c = rest-short c.args.group.now c.rank-rank.ensures.matrix c.args.self.now.members c.requires.closed c.args.s c.args.j
-    c.requires.letter c.requires.member c.requires.next c.in-Ok.lower (rw c.shifts.ensures at c.in-Ok.ensures.lower) c.in-Some.first.letter
-    c.in-Some.first.rest (rw c.rank-rank.ensures.rank at c.in-Some.ensures.letter)
+push-requires-clause-short c = rest-short c.args.group.now c.rank-rank.ensures.matrix c.args.self.now.members c.requires.closed c.args.s
+    c.args.j c.requires.letter c.requires.member c.requires.next c.in-Ok.lower (rw c.shifts.ensures at c.in-Ok.ensures.lower)
+    c.in-Some.first.letter c.in-Some.first.rest (rw c.rank-rank.ensures.rank at c.in-Some.ensures.letter)
     (rw c.rank-rank.ensures.rank at c.in-Some.ensures.found) (rw c.rank-rank.ensures.rank at c.in-Some.ensures.least) c.requires.room
 
 pub returns-clause-members : goal.returns-clause-members

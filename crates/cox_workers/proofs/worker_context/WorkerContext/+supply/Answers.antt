@@ -57,7 +57,8 @@ provide-returns-in-Claimed-look-clause-seen g t c =
 
 pub provide-returns-in-Claimed-look-clause-fresh : goal.provide-returns-in-Claimed-look-clause-fresh
 provide-returns-in-Claimed-look-clause-fresh g t c =
-    let before = (work-trans (work-same c.requires.ready c.look.ensures.own (c.look.ensures.kept c.args.u)) c.supply-claimed.ensures.work).kept
+    let before = (work-trans (work-same c.requires.ready c.look.ensures.own (c.look.ensures.kept c.args.u))
+    c.supply-claimed.ensures.work).kept
     in fresh-before c.args.seat.now c.supply-claimed.new.seat before.seen (Some c.args.u)
     (fresh-claimed c.supply-claimed.new.seat c.args.u c.in-Claimed-look.ensures.step.known)
 
