@@ -20,7 +20,7 @@ use Rattle.cox_row.specs.declared.row.Row.{Row}
 use Rattle.cox_row.specs.RowLists.{row_at}
 use Rattle.cox_row.proofs.GrownRows.{row-grown}
 use Rattle.cox_rows.specs.Holding.{Holding, HasRow, IsHeldRow, AreRows}
-use Rattle.cox_rows.specs.Ensured.{IsNeedClosed}
+use Rattle.cox_rows.specs.Ensured.{HoldsNeed, IsSettled}
 use Rattle.cox_rows.proofs.NeedCases.{needed-below}
 
 -- ---- rows
@@ -42,29 +42,33 @@ module _ (old new : Elements) (g : IsAdmissible (integer_matrix old.matrix)) (fr
   pub rows-kept : (limit : ℤ) (rows : List (Option Row)) → AreRows old limit rows → AreRows new limit rows
   rows-kept limit rows h = record { least = h.least; each = λ i. some-kept limit i (row_at rows i) (h.each i) }
 
--- ---- rows beside those that they need
+-- ---- settled members
 
--- where each row of Need(w) that is held has its own Need beside it, it is so in the larger context
 module _ (old new : Holding) (g : IsAdmissible (integer_matrix old.elements.matrix))
     (from : IsClosed (integer_matrix old.elements.matrix) old.elements.members)
     (to : IsClosed (integer_matrix old.elements.matrix) new.elements.members) (same : new.elements.matrix ≡ old.elements.matrix)
-    (are : AreKept old.elements.members new.elements.members) (holds : new.holds ≡ old.holds)
-    (members : (i : ℕ) → HasRow old i → i < length old.elements.members) where
-  pub closed-kept : (w : List ℕ) → IsNeedClosed old w → IsNeedClosed new w
-  closed-kept w was k needed there j l n =
+    (limit : new.limit ≡ old.limit) (are : AreKept old.elements.members new.elements.members) (holds : new.holds ≡ old.holds) where
+  -- what an old member needs is old
+  need-kept : (i : ℕ) → i < length old.elements.members → HoldsNeed old (word_at old.elements.members i)
+      → HoldsNeed new (word_at old.elements.members i)
+  need-kept i within was j l n =
       let A = integer_matrix old.elements.matrix
-      in let held : HasRow old k = rw holds at there
-      in let inside = members k held
-      in let of_k : IsNeeded A w (word_at old.elements.members k) = rw (same, are.word k inside) at needed
-      in let of_j : IsNeeded A (word_at old.elements.members k) (word_at new.elements.members j) = rw (same, are.word k inside) at n
+      in let needed : IsNeeded A (word_at old.elements.members i) (word_at new.elements.members j) = rw same at n
       in let p = contains-placed old.elements.members (normal_form A (word_at new.elements.members j))
-      (member-below A g old.elements.members from (word_at new.elements.members j) k inside
-      (needed-below A g (word_at old.elements.members k) (word_at new.elements.members j) of_j))
+      (member-below A g old.elements.members from (word_at new.elements.members j) i within
+      (needed-below A g (word_at old.elements.members i) (word_at new.elements.members j) needed))
       in let word : word_at old.elements.members p.i ≡ word_at new.elements.members j
       = p.is ∙ (element-at A g new.elements.members to j l).normal
       in let place : p.i ≡ j = to.distinct p.i j (omega (arith, p.within, are.size)) l (are.word p.i p.within ∙ word)
-      in let found : HasRow old p.i = was k of_k held p.i p.within (rw word of_j)
+      in let found : HasRow old p.i = was p.i p.within (rw word needed)
       in rw (holds, ← place) found
+
+  pub settled-kept : (i : ℕ) → IsSettled old i → IsSettled new i
+  settled-kept i was = record {
+    member = omega (arith, was.member, are.size);
+    small = rw (same, are.word i was.member, limit) was.small;
+    held = rw (are.word i was.member) (need-kept i was.member was.held);
+  }
 
 -- ---- nothing new
 

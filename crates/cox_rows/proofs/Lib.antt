@@ -16,8 +16,6 @@ pub mod RowBeyond
 pub mod FaultsOfRows
 -- how many polynomials are added up at least
 pub mod CountedRows
--- all rows of Need(w) are held once that of w is made
-pub mod MadeNeeds
 -- how rows change while others are made
 pub mod EnsuredNeeds
 -- how much is added up

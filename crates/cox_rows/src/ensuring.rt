@@ -2,8 +2,8 @@
 //!
 //! The row of w is made from that of sw, for the least left descent s of w, and from those of the corrections of the step. So these are
 //! made first, by recursion to smaller numbers. Where all rows are asked for, they are made in the order of the members, and corrections
-//! are not looked for. A member is settled when no row of its Need is beyond the limits; that is noted where its row is held, so that
-//! nothing is looked at twice. It stays so when rows are taken out and come back.
+//! are not looked for. A member is settled when no row of its Need is beyond the limits and all of them are held. That is noted, so that
+//! nothing is looked at twice. Where a row is taken out, all notes are forgotten.
 ghost use Rattle.std.specs.Prelude.{◌≡◌, ◌≢◌, ℕ, ℤ, ◌<◌, ◌≤◌, ◌∷◌, length, IsTrue, IfOk, IfErr, OnOk, false};
 ghost use Rattle.cox_base.specs.declared.side.Side.TheVariants.{Left};
 ghost use Rattle.cox_base.specs.IntegerMatrix.{integer_matrix};
@@ -22,7 +22,7 @@ ghost use Rattle.cox_rows.specs.Beyond.{NeedsBeyond};
 ghost use Rattle.cox_rows.specs.CountedRows.{AreRowsCounted};
 ghost use Rattle.cox_rows.specs.Holding.{HasRow, held};
 ghost use Rattle.cox_rows.specs.RowsFaults.{IsRowsFault, IsFaultOfSome};
-ghost use Rattle.cox_rows.specs.Ensured.{HoldsNeed, IsNeedClosed, IsEnsured, IsSettled, AreNeedsSmall};
+ghost use Rattle.cox_rows.specs.Ensured.{HoldsNeed, IsEnsured, IsSettled};
 
 use crate::Rows;
 use crate::flags::set_at;
@@ -32,11 +32,8 @@ use cox_row::Row;
 use std::alloc::{AllocError, Global};
 
 impl Rows {
-    /// Makes the rows of Need(z) that are not there, for the member z with the number i, and no others. Where all are there, nothing is
-    /// added up.
-    ///
-    /// All of Need(z) is held then, if each of its rows that was held before had all rows of its own Need beside it (clause `all`). That is
-    /// so where no row is held; `ensure`, `begin` and `extend` keep it, after a fault too; only `take` and `adopt` end it.
+    /// Makes the rows of Need(z) that are not there, for the member z with the number i, and no others; all of Need(z) is held then. Where
+    /// all are there, nothing is added up.
     ///
     /// `Coefficient` or `Mu` where the row of an element of Need(z) is beyond a limit; what was made before that is held. In A 2, with all
     /// six elements as members, the rows that `121` needs are those of `121`, `21`, `1` and the identity.
@@ -44,8 +41,7 @@ impl Rows {
         requires { i < length self.old.elements.members }
         ensures rows { IsEnsured (word_at self.old.elements.members i) self.old self.new }
         ensures there { OnOk result (HasRow self.new i) }
-        ensures all { OnOk result (IsNeedClosed self.old (word_at self.old.elements.members i)
-            → HoldsNeed self.new (word_at self.old.elements.members i)) }
+        ensures all { OnOk result (HoldsNeed self.new (word_at self.old.elements.members i)) }
         ensures small { OnOk result (¬ NeedsBeyond (integer_matrix self.old.elements.matrix) self.old.limit
             (word_at self.old.elements.members i)) }
         ensures fault { IfErr result (IsRowsFault self.old.elements self.old.limit
@@ -68,6 +64,7 @@ impl Rows {
         requires { i < length self.old.elements.members }
         ensures rows { IsEnsured (word_at self.old.elements.members i) self.old self.new }
         ensures there { IsTrue result → HasRow self.new i }
+        ensures all { IsTrue result → HoldsNeed self.new (word_at self.old.elements.members i) }
         ensures small { IsTrue result → ¬ NeedsBeyond (integer_matrix self.old.elements.matrix) self.old.limit
             (word_at self.old.elements.members i) }
     {
@@ -84,9 +81,7 @@ impl Rows {
     fn ensure_until(&mut self, i: u32, last: u64) -> Result<bool, StepFault>
         requires { i < length self.old.elements.members }
         ensures rows { IsEnsured (word_at self.old.elements.members i) self.old self.new }
-        ensures there { IfOk result (λ done. IsTrue done → HasRow self.new i) }
-        ensures small { IfOk result (λ done. IsTrue done → ¬ NeedsBeyond (integer_matrix self.old.elements.matrix) self.old.limit
-            (word_at self.old.elements.members i)) }
+        ensures settled { IfOk result (λ done. IsTrue done → IsSettled self.new i) }
         ensures stopped { IfOk result (λ done. done ≡ false → last < self.new.steps) }
         ensures fault { IfErr result (IsRowsFault self.old.elements self.old.limit
             (IsNeeded (integer_matrix self.old.elements.matrix) (word_at self.old.elements.members i))) }
@@ -111,9 +106,7 @@ impl Rows {
     fn ensure_lower(&mut self, i: u32, last: u64) -> Result<bool, StepFault>
         requires { i < length self.old.elements.members }
         ensures rows { IsEnsured (word_at self.old.elements.members i) self.old self.new }
-        ensures there { IfOk result (λ done. IsTrue done → HasNeeds self.old.elements (HasRow self.new) i) }
-        ensures small { IfOk result (λ done. IsTrue done → AreNeedsSmall (integer_matrix self.old.elements.matrix) self.old.limit
-            (word_at self.old.elements.members i)) }
+        ensures settled { IfOk result (λ done. IsTrue done → HasNeeds self.old.elements (IsSettled self.new) i) }
         ensures stopped { IfOk result (λ done. done ≡ false → last < self.new.steps) }
         ensures fault { IfErr result (IsRowsFault self.old.elements self.old.limit
             (IsNeeded (integer_matrix self.old.elements.matrix) (word_at self.old.elements.members i))) }
@@ -187,14 +180,14 @@ impl Rows {
         true
     }
 
-    /// Whether the row of the member with the number i is held, and it is known that no row of its Need is beyond a limit. Then `ensure`
-    /// has nothing to do; after `ensure` or `ensure_all` it is so, unless there was a fault.
+    /// Whether it is known of the member with the number i that all rows of its Need are held, and none of them is beyond a limit. Then
+    /// `ensure` has nothing to do. After `ensure` or `ensure_all` it is so, unless there was a fault, until a row is taken out.
     pub fn is_settled(&self, i: u32) -> bool
         ensures there { IsTrue result → HasRow self.now i }
         ensures small { IsTrue result → IsSettled self.now i }
     {
         match self.settled.get(i as usize) {
-            Some(settled) => *settled && self.has(i),
+            Some(settled) => *settled,
             None => false,
         }
     }
@@ -209,7 +202,7 @@ impl Rows {
     {
         let mut all = true;
         'members: for i in 0..self.context().len() {
-            if self.is_known(i) {
+            if self.is_settled(i) {
                 continue;
             }
             if !self.can_settle(i, all) {
@@ -227,8 +220,7 @@ impl Rows {
     fn can_settle(&self, i: u32, all: bool) -> bool
         requires { IsTrue all → (j : ℕ) → j < i → IsSettled self.now j }
         ensures there { IsTrue result → HasRow self.now i }
-        ensures needs { IsTrue result → AreNeedsSmall (integer_matrix self.now.elements.matrix) self.now.limit
-            (word_at self.now.elements.members i) }
+        ensures needs { IsTrue result → HasNeeds self.now.elements (IsSettled self.now) i }
     {
         let context = self.context();
         if !self.has(i) {
@@ -239,7 +231,7 @@ impl Rows {
         }
         let descent = Descent::of(context, i);
         match self.held.get(descent.lower) {
-            Some(lower) => self.is_known(descent.lower) && self.are_known(&descent, lower),
+            Some(lower) => self.is_settled(descent.lower) && self.are_known(&descent, lower),
             None => false,
         }
     }
@@ -255,38 +247,24 @@ impl Rows {
     {
         let context = self.context();
         for &u in lower.neighbours() {
-            if shortens(context, Side::Left, descent.letter, u) && !self.is_known(u) {
+            if shortens(context, Side::Left, descent.letter, u) && !self.is_settled(u) {
                 return false;
             }
         }
         true
     }
 
-    /// Whether the member with the number i is noted as settled, be its row held or not.
-    fn is_known(&self, i: u32) -> bool
-        ensures { IsTrue result → IsSettled self.now i }
-    {
-        match self.settled.get(i as usize) {
-            Some(settled) => *settled,
-            None => false,
-        }
-    }
-
-    /// Makes the row of the member with the number i, unless it is there, where those of all members before it are there and settled. The
-    /// row is made from those.
+    /// Makes the row of the member with the number i, unless it is there, where all members before it are settled. The row is made from
+    /// theirs.
     fn ensure_next(&mut self, i: u32) -> Result<(), StepFault>
         requires member { i < length self.old.elements.members }
-        requires before { (j : ℕ) → j < i → HasRow self.old j }
-        requires settled { (j : ℕ) → j < i
-            → ¬ NeedsBeyond (integer_matrix self.old.elements.matrix) self.old.limit (word_at self.old.elements.members j) }
+        requires before { (j : ℕ) → j < i → IsSettled self.old j }
         ensures elements { self.new.elements ≡ self.old.elements }
         ensures limit { self.new.limit ≡ self.old.limit }
         ensures kept { (j : ℕ) → HasRow self.old j → HasRow self.new j }
-        ensures there { OnOk result (HasRow self.new i) }
+        ensures settled { OnOk result (IsSettled self.new i) }
         ensures counted { AreRowsCounted self.old self.new }
         ensures again { HasRow self.old i → self.new.steps ≡ self.old.steps }
-        ensures small { OnOk result (¬ NeedsBeyond (integer_matrix self.old.elements.matrix) self.old.limit
-            (word_at self.old.elements.members i)) }
         ensures fault { IfErr result (IsFaultOfSome self.old.elements self.old.limit) }
     {
         let _context = self.context();
@@ -370,10 +348,9 @@ impl Rows {
     fn settle(&mut self, i: u32) -> Result<(), StepFault>
         requires member { i < length self.old.elements.members }
         requires there { HasRow self.old i }
-        requires needs { AreNeedsSmall (integer_matrix self.old.elements.matrix) self.old.limit (word_at self.old.elements.members i) }
+        requires needs { HasNeeds self.old.elements (IsSettled self.old) i }
         ensures same { self.new ≡ self.old }
-        ensures small { OnOk result (¬ NeedsBeyond (integer_matrix self.old.elements.matrix) self.old.limit
-            (word_at self.old.elements.members i)) }
+        ensures settled { OnOk result (IsSettled self.new i) }
         ensures fault { IfErr result (IsFault (integer_matrix self.old.elements.matrix) self.old.elements.members self.old.limit
             (λ w. w ≡ i)) }
     {

@@ -15,7 +15,6 @@ ghost use Rattle.cox_context.specs.Closed.{IsClosed};
 ghost use Rattle.cox_context.specs.Numbers.{word_at};
 ghost use Rattle.cox_context.specs.Numbering.{IsNumberOf};
 ghost use Rattle.cox_row.specs.RowLists.{row_at};
-ghost use Rattle.cox_rows.specs.Ensured.{IsNeedClosed};
 ghost use Rattle.cox_rows.specs.Holding.{Holding, HasRow, IsHeldRow, held};
 ghost use Rattle.cox_context.specs.Spread.{AreKept};
 ghost use Rattle.cox_klstep.specs.TablesOf.{AreTables, AreEarlierTables};
@@ -151,6 +150,8 @@ impl Rows {
     }
 
     /// Takes the row of the member with the number i out; `None` exactly where it is not held. It takes no memory.
+    ///
+    /// What is known to be settled is forgotten then. `settle_held` and `ensure` note it anew.
     pub fn take(&mut self, i: u32) -> Option<Row>
         ensures row { IfSome result (IsHeldRow self.old.elements self.old.limit i) }
         ensures exactly { IsSome result ↔ HasRow self.old i }
@@ -160,6 +161,7 @@ impl Rows {
         ensures others { (j : ℕ) → j ≢ i → HasRow self.new j ↔ HasRow self.old j }
         ensures steps { self.new.steps ≡ self.old.steps }
     {
+        self.settled.clear();
         self.held.take(i)
     }
 
@@ -195,7 +197,6 @@ impl Rows {
         ensures number { IfOk result (λ i. IsNumberOf self.new.elements.members (normal_form (integer_matrix group.now) w.now.items)
             (Some i)) }
         ensures holds { self.new.holds ≡ self.old.holds }
-        ensures closed { (v : List ℕ) → IsNeedClosed self.old v → IsNeedClosed self.new v }
         ensures unchanged { OnErr result (self.new ≡ self.old) }
         ensures steps { self.new.steps ≡ self.old.steps }
     {

@@ -1,4 +1,4 @@
--- The recursion goes to smaller numbers. The corrections so far are there, and need nothing beyond the limits.
+-- The recursion goes to smaller numbers. The corrections so far are settled.
 use Rattle.std.proofs.Common.{◌+◌, ◌*◌}
 use Rattle.cox_context.specs.Numbers.{word_at}
 use Rattle.cox_rows.proofs.EnsuredNeeds.{IsUnderWay}

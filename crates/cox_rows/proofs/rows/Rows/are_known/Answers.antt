@@ -10,7 +10,7 @@ use Rattle.cox_row.proofs.MuOfElements.{mu-words}
 use Rattle.cox_row_symmetry.proofs.DescentsOnSides.{lowered-letter}
 use Rattle.cox_row_symmetry.proofs.LowerMembers.{lower-same}
 use Rattle.cox_rows.proofs.rows.Rows.are_known.Goals as goal
-use Rattle.cox_rows.proofs.rows.Rows.are_known.Goals.{else-shortens-via-then-shortens+else-not-is_known, else-shortens-via-else-shortens}
+use Rattle.cox_rows.proofs.rows.Rows.are_known.Goals.{else-shortens-via-then-shortens+else-not-is_settled, else-shortens-via-else-shortens}
 
 pub shortens-requires-clause-letter : goal.shortens-requires-clause-letter
 shortens-requires-clause-letter c = rw c.context-context.ensures.context
@@ -27,7 +27,7 @@ loop-u-preserved c = below_more _ _ c.loop-u.invariant
     (λ (d : IsDescent Left (integer_matrix c.args.self.now.elements.matrix)
     (word_at c.args.self.now.elements.members (number_at c.neighbours-u-items.result.now c.loop-u.u-index)) c.args.descent.now.letter).
     elim c.else-shortens.branch [
-      | else-shortens-via-then-shortens+else-not-is_known w ↦ w.is_known.ensures w.if-not-is_known.false
+      | else-shortens-via-then-shortens+else-not-is_settled w ↦ w.is_settled.ensures.small w.if-not-is_settled.false
       | else-shortens-via-else-shortens w ↦
           let yes : c.shortens.result ≡ true = c.shortens.ensures.1 (rw c.context-context.ensures.context d)
           in absurd (cc (yes, w.if-shortens.false))

@@ -1,6 +1,8 @@
--- One member more is there. Where all rows were there, nothing is added up.
-use Rattle.std.proofs.Common.{◌<◌, length, rules, ◌∙◌, arith}
+-- One member more is settled. Where all rows were there, nothing is added up.
+use Rattle.std.proofs.Common.{◌<◌, length, rules, ◌∙◌, arith, below_more}
+use Rattle.cox_rows.specs.Ensured.{IsSettled}
 use Rattle.cox_rows.proofs.CountedRows.{counted-none, counted-trans}
+use Rattle.cox_rows.proofs.SettledMembers.{settled-row, settled-more}
 use Rattle.cox_rows.proofs.rows.Rows.ensure_all.Goals as goal
 
 pub members-init : goal.members-init
@@ -8,8 +10,7 @@ members-init c = record {
   elements = search rules;
   limit = search rules;
   kept = search rules;
-  there = search rules;
-  small = search rules;
+  settled = search rules;
   counted = counted-none c.args.self.now;
   again = search rules;
 }
@@ -22,8 +23,10 @@ members-preserved c =
       elements = search rules;
       limit = search rules;
       kept = search rules;
-      there = search rules;
-      small = search rules;
+      settled = below_more (IsSettled c.ensure_next.new.self) c.members.i
+          (λ k l. settled-more c.members.self c.ensure_next.new.self c.ensure_next.ensures.elements c.ensure_next.ensures.limit
+          c.ensure_next.ensures.kept k (c.members.invariant.settled k l))
+          c.in_ok-ensure_next.ensures.settled;
       counted = counted-trans c.args.self.now c.members.self c.ensure_next.new.self c.members.invariant.elements c.ensure_next.ensures.kept
           c.members.invariant.counted c.ensure_next.ensures.counted;
       again = λ all. c.ensure_next.ensures.again (c.members.invariant.kept c.members.i (all c.members.i within))
@@ -34,3 +37,14 @@ pub returns-in_err-ensure_next-clause-counted : goal.returns-in_err-ensure_next-
 returns-in_err-ensure_next-clause-counted c =
     counted-trans c.args.self.now c.members.self c.ensure_next.new.self c.members.invariant.elements c.ensure_next.ensures.kept
     c.members.invariant.counted c.ensure_next.ensures.counted
+
+pub returns-clause-there : goal.returns-clause-there
+returns-clause-there c =
+    let size = rw c.context.ensures.context at c.len-i-end.ensures.len
+    in λ i l. settled-row c.members.self i (c.members.invariant.settled i (omega (arith, size, l, c.members-test.false)))
+
+pub returns-clause-small : goal.returns-clause-small
+returns-clause-small c =
+    let size = rw c.context.ensures.context at c.len-i-end.ensures.len
+    in λ i l. rw (c.members.invariant.elements, c.members.invariant.limit) at
+    (c.members.invariant.settled i (omega (arith, size, l, c.members-test.false))).small

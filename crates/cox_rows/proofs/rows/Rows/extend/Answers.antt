@@ -13,7 +13,7 @@ use Rattle.cox_context.proofs.UnionForms.{union-form, refusal-form}
 use Rattle.cox_context.proofs.UnionSizes.{union-full}
 use Rattle.cox_klstep.specs.TablesOf.{AreTables, AreEarlierTables}
 use Rattle.cox_klstep.specs.declared.tables.Tables.{Tables}
-use Rattle.cox_rows.proofs.LargerContexts.{union-nothing_new, closed-kept}
+use Rattle.cox_rows.proofs.LargerContexts.{union-nothing_new, settled-kept}
 use Rattle.cox_rows.proofs.rows.Rows.extend.Goals as goal
 
 pub returns-then-before-limit-clause-refused : goal.returns-then-before-limit-clause-refused
@@ -70,9 +70,14 @@ returns-in_ok-i-in-Outside-clause-members c =
     c.in-Outside.form.items c.args.w.now.items (rw c.requires.matrix at (c.in-Outside.ensures {u = tt}).1)
     c.args.self.now.elements.members c.extend.new.self.elements.members (rw c.self.view_is at are))
 
-pub returns-in_ok-i-in-Outside-clause-closed : goal.returns-in_ok-i-in-Outside-clause-closed
-returns-in_ok-i-in-Outside-clause-closed c =
+-- settled members stay settled
+pub invariant_of-self-in-Outside : goal.invariant_of-self-in-Outside
+invariant_of-self-in-Outside c =
     let same : c.extend.new.self.elements.matrix ≡ c.args.self.now.elements.matrix = rw c.self.view_is at c.extend.ensures.matrix
-    in closed-kept c.args.self.now c.extend.new.self c.context-context.ensures.admissible c.context-context.ensures.closed
-    (rw same at c.context.ensures.closed) same (rw c.self.view_is at c.extend.ensures.kept) (rw c.self.view_is at c.extend.ensures.holds)
-    c.context-context.ensures.members
+    in record {
+      known = λ i t. settled-kept c.args.self.now c.extend.new.self c.context-context.ensures.admissible c.context-context.ensures.closed
+          (rw same at c.context.ensures.closed) same (rw c.self.view_is at c.extend.ensures.limit)
+          (rw c.self.view_is at c.extend.ensures.kept) (rw c.self.view_is at c.extend.ensures.holds) i
+          (rw c.self.view_is at (c.self.invariant.known i t));
+      usable = rw c.context.ensures.context at c.grown.ensures;
+    }

@@ -17,12 +17,19 @@ pub invariant_of-self : goal.invariant_of-self
 invariant_of-self c = store-put c.self-2.inside.held c.put.new.self c.self-2.inside.settled.items c.self-2.inside.tables
     c.row-made.new.tables (c.in_err-put-in-Ok.ensures.elements ∙ c.add_steps.ensures.elements)
     (c.in_err-put-in-Ok.ensures.limit ∙ c.add_steps.ensures.limit)
+    (λ j there. c.in_err-put-in-Ok.ensures.kept j (c.add_steps.ensures.kept j there))
     c.self-2.invariant (rw c.context.ensures.context at c.row-made.ensures.tables)
 
 pub invariant_of-self-in-Ok : goal.invariant_of-self-in-Ok
 invariant_of-self-in-Ok c = store-put c.self-2.inside.held c.put.new.self c.self-2.inside.settled.items c.self-2.inside.tables
     c.row-made.new.tables (c.in_ok-put-in-Ok.ensures.elements ∙ c.add_steps.ensures.elements)
     (c.in_ok-put-in-Ok.ensures.limit ∙ c.add_steps.ensures.limit)
+    (λ j there. c.in_ok-put-in-Ok.ensures.kept j (c.add_steps.ensures.kept j there))
+    c.self-2.invariant (rw c.context.ensures.context at c.row-made.ensures.tables)
+
+pub invariant_of-self-in-Err : goal.invariant_of-self-in-Err
+invariant_of-self-in-Err c = store-put c.self-2.inside.held c.add_steps.new.self c.self-2.inside.settled.items c.self-2.inside.tables
+    c.row-made.new.tables c.add_steps.ensures.elements c.add_steps.ensures.limit c.add_steps.ensures.kept
     c.self-2.invariant (rw c.context.ensures.context at c.row-made.ensures.tables)
 
 -- ---- the row was there
