@@ -231,13 +231,13 @@ impl Rows {
         }
         let descent = Descent::of(context, i);
         match self.held.get(descent.lower) {
-            Some(lower) => self.is_settled(descent.lower) && self.are_known(&descent, lower),
+            Some(lower) => self.is_settled(descent.lower) && self.are_settled(&descent, lower),
             None => false,
         }
     }
 
     /// Whether the members that correct the step by a descent are known to be settled.
-    fn are_known(&self, descent: &Descent, lower: &Row) -> bool
+    fn are_settled(&self, descent: &Descent, lower: &Row) -> bool
         requires descent { IsDescentAt self.now.elements descent.now }
         requires lower { IsRowAt self.now.elements descent.now.lower lower.now }
         ensures { IsTrue result → (u : ℕ) → (m : ℤ) → u < length self.now.elements.members

@@ -18,4 +18,4 @@ pub returns-then-is_settled-clause-needs : goal.returns-then-is_settled-clause-n
 returns-then-is_settled-clause-needs c t =
     let is : IsDescentAt c.args.self.now.elements c.of-descent.result = rw c.context-context.ensures.context at c.of-descent.ensures.descent
     in rw c.of-descent.ensures.number at (descent-needs c.args.self.now.elements (IsSettled c.args.self.now) c.of-descent.result
-    c.context-context.ensures.closed is (c.is_settled.ensures.small c.if-is_settled.true) (c.are_known.ensures t))
+    c.context-context.ensures.closed is (c.is_settled.ensures.small c.if-is_settled.true) (c.are_settled.ensures t))

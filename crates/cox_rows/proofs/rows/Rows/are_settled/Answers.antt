@@ -9,8 +9,9 @@ use Rattle.cox_row.specs.Rising.{number_at}
 use Rattle.cox_row.proofs.MuOfElements.{mu-words}
 use Rattle.cox_row_symmetry.proofs.DescentsOnSides.{lowered-letter}
 use Rattle.cox_row_symmetry.proofs.LowerMembers.{lower-same}
-use Rattle.cox_rows.proofs.rows.Rows.are_known.Goals as goal
-use Rattle.cox_rows.proofs.rows.Rows.are_known.Goals.{else-shortens-via-then-shortens+else-not-is_settled, else-shortens-via-else-shortens}
+use Rattle.cox_rows.proofs.rows.Rows.are_settled.Goals as goal
+use Rattle.cox_rows.proofs.rows.Rows.are_settled.Goals.{else-shortens-via-then-shortens+else-not-is_settled}
+use Rattle.cox_rows.proofs.rows.Rows.are_settled.Goals.{else-shortens-via-else-shortens}
 
 pub shortens-requires-clause-letter : goal.shortens-requires-clause-letter
 shortens-requires-clause-letter c = rw c.context-context.ensures.context

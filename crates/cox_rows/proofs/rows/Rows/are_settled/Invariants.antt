@@ -6,7 +6,7 @@ use Rattle.cox_base.specs.SideDescents.{IsDescent}
 use Rattle.cox_context.specs.Numbers.{word_at}
 use Rattle.cox_row.specs.Rising.{number_at}
 use Rattle.cox_rows.specs.Ensured.{IsSettled}
-use Rattle.cox_rows.proofs.rows.Rows.are_known.Given as goal
+use Rattle.cox_rows.proofs.rows.Rows.are_settled.Given as goal
 
 abbrev pub invariant-loop-u : goal.invariant-loop-u
 invariant-loop-u l = (k : ℕ) → k < l.u-index
