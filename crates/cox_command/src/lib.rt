@@ -17,7 +17,7 @@
 //! - `parsing`: lines
 //! - `generated`: the words that `work` generates
 //! - `blocks`: the lines that part a list of blocks, and those that no block may have
-//! - `laws`: a line that is not refused gives a command
+//! - `laws`: a line that is not refused gives a command, and each command has a word
 #![tactic(auto)]
 
 mod blocks;
@@ -26,7 +26,7 @@ mod command_word;
 mod generated;
 mod group_arguments;
 mod inquiry;
-mod laws;
+pub mod laws;
 mod limits;
 mod no_arguments;
 mod parsing;
@@ -38,7 +38,6 @@ pub use blocks::{ListWord, block_refusal, list_word};
 pub use command::{Command, LineFault};
 pub use generated::{WORD_LETTERS, work_word};
 pub use inquiry::{EntryKind, Inquiry, NoWord, OneWord, RowKind, TwoWord};
-pub use laws::accepted_gives_command;
 pub use limits::{MAX_COUNT, MAX_START};
 pub use parsing::parse;
 pub use refusal::Refusal;
