@@ -17,7 +17,7 @@ use Rattle.cox_shell.specs.OpenLists.{then_line, then_block}
 use Rattle.cox_shell.specs.Keeping.{IsKeptOf, AreKeptOf, KeepsState}
 use Rattle.cox_shell.specs.ContentReply.{IsContentReply}
 use Rattle.cox_shell.specs.Blocks.{IsListReply}
-use Rattle.cox_shell.specs.ListReply.{IsWordReply, IsReplyInList, kept_reply}
+use Rattle.cox_shell.specs.ListReply.{IsWordReply, IsReplyInList, silent_keeping}
 use Rattle.cox_shell.specs.LineReply.{IsReply, content_refusal}
 use Rattle.cox_shell.specs.Answer.{IsClosing}
 use Rattle.cox_shell.specs.Run.{Stand, IsServed}
@@ -125,10 +125,10 @@ module _ (kept state : State) (keeps : KeepsState kept state) where
     line : Kept
     line = record { content = content; refused = None }
 
-    by_word : (o : Option ListWord) → MatchOption o (reply ≡ kept_reply kept l line) (λ word. IsWordReply word kept l reply)
-        → (other : Reply) × MatchOption o (other ≡ kept_reply state m line) (λ word. IsWordReply word state m other) × IsLike reply other
+    by_word : (o : Option ListWord) → MatchOption o (reply ≡ silent_keeping kept l line) (λ word. IsWordReply word kept l reply)
+        → (other : Reply) × MatchOption o (other ≡ silent_keeping state m line) (λ word. IsWordReply word state m other) × IsLike reply other
     by_word None is =
-        (kept_reply state m line, refl, silent reply (then_line l line) (then_line m line) (kept-line l m line which) is)
+        (silent_keeping state m line, refl, silent reply (then_line l line) (then_line m line) (kept-line l m line which) is)
     by_word (Some Next) is =
         (silence (record state { list = Some (then_block m) }), refl, silent reply (then_block l) (then_block m) (kept-block l m which) is)
     by_word (Some End) is = (reply, list-reply l m which reply is, itself reply)
@@ -156,7 +156,7 @@ module _ (kept state : State) (keeps : KeepsState kept state) where
         by_lists (Some o) (Some p) e f h None is = in_list o p h content reply is
         by_lists (Some o) (Some p) e f h (Some why) is =
             let line : Kept = record { content = []; refused = Some why } in
-            (kept_reply state p line, refl, silent reply (then_line o line) (then_line p line) (kept-line o p line h) is)
+            (silent_keeping state p line, refl, silent reply (then_line o line) (then_line p line) (kept-line o p line h) is)
 
 -- ---- lines that were served
 

@@ -12,7 +12,7 @@ use Rattle.cox_command.specs.BlockLines.{list_word_of}
 use Rattle.cox_shell.specs.Reply.{Kept, OpenList, State, Reply, closed, refusal, silence}
 use Rattle.cox_shell.specs.OpenLists.{then_line, then_block, kept_lines, is_long}
 use Rattle.cox_shell.specs.ContentReply.{IsContentReply}
-use Rattle.cox_shell.specs.Blocks.{AreKeptReplies, IsListReply, IsEndOfList, list_answered}
+use Rattle.cox_shell.specs.Blocks.{AreBlockLineReplies, IsListReply, IsEndOfList, list_answered}
 use Rattle.cox_shell.specs.ListReply.{IsReplyTo, IsReplyInList, unread_reply}
 use Rattle.cox_shell.specs.Answer.{IsClosing}
 use Rattle.cox_shell.specs.Keeping.{with_kept, with_next, KeepsState}
@@ -94,17 +94,17 @@ module _ (state : State) (list : OpenList) where
   -- the reply to a list, by whether it is long
   of_test : (b : Bool) (reply : Reply) → is_long list ≡ b
       → MatchBool b (reply ≡ refusal (closed state) LongList)
-      ((replies : List Reply) × AreKeptReplies (closed state) (kept_lines list) replies × (reply ≡ list_answered (closed state) replies))
+      ((replies : List Reply) × AreBlockLineReplies (closed state) (kept_lines list) replies × (reply ≡ list_answered (closed state) replies))
       → IsListReply state list reply
   of_test b reply test is = subst (λ b. MatchBool b (reply ≡ refusal (closed state) LongList)
-      ((replies : List Reply) × AreKeptReplies (closed state) (kept_lines list) replies × (reply ≡ list_answered (closed state) replies)))
+      ((replies : List Reply) × AreBlockLineReplies (closed state) (kept_lines list) replies × (reply ≡ list_answered (closed state) replies)))
       (sym test) is
 
   -- it is refused, or is what its blocks are answered
   pub long_reply : state.list ≡ None → is_long list ≡ true → IsListReply state list (refusal state LongList)
   long_reply none long = of_test true (refusal state LongList) long (ap (λ s. refusal s LongList) (sym (closed-same state none)))
 
-  pub short_reply : (replies : List Reply) → is_long list ≡ false → AreKeptReplies (closed state) (kept_lines list) replies
+  pub short_reply : (replies : List Reply) → is_long list ≡ false → AreBlockLineReplies (closed state) (kept_lines list) replies
       → IsListReply state list (list_answered (closed state) replies)
   short_reply replies short are = of_test false (list_answered (closed state) replies) short (replies, are, refl)
 

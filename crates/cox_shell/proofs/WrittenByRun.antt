@@ -178,7 +178,7 @@ module _ (limits : Limits) (script : Option (List ℕ)) (old : Outlet) (state : 
           | inr whole ↦ inr (IsAtEnd-left reader.feed.pending supply.left whole.0, whole.1)
         ];
     are_replies = all_replies h.lines h.replies closing h.are_replies h.behind closes;
-    some = some-kept state (state_behind (opening limits) h.replies) h.behind some;
+    list_open = some-kept state (state_behind (opening limits) h.replies) h.behind some;
   }
 
   -- at a read fault, and at the limit, reading has ended

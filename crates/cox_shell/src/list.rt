@@ -77,7 +77,7 @@ impl KeptLine {
         self.content.as_slice()
     }
 
-    /// What it gives where the group that is set, if any, has this rank; `None` where it was not read so.
+    /// What it gives where the group that is set, if any, has this rank; `None` where it was not read for this rank.
     pub(crate) fn gives(&self, rank: Option<u32>) -> Option<&BlockLine>
         ensures { IfSome result (λ gives. Gives gives.now self.now.content rank) }
     {

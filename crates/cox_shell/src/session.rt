@@ -166,8 +166,8 @@ impl Session {
     }
 
     /// Takes a line whose bytes are refused: `n` is 18 where the line is too long, 19 where it has a byte that no line may have. While a
-    /// list is open it is kept as one that is so refused, else it is answered `error n`. On `NoMemory` the session is as before, and a
-    /// prefix of the answer is appended.
+    /// list is open the line is kept, as one that is refused by `n`; else it is answered `error n`. On `NoMemory` the session is as before,
+    /// and a prefix of the answer is appended.
     pub fn bad(&mut self, n: u8, out: &mut Vec<u8>) -> Result<Said, AllocError>
         requires { (n ≡ 18) ⊎ (n ≡ 19) }
         ensures ok { IfOk result (λ said. (reply : Reply) × IsBadReply self.old n reply

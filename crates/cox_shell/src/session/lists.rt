@@ -67,7 +67,7 @@ impl Session {
         }
     }
 
-    /// Takes a line whose bytes are refused so.
+    /// Takes a line whose bytes are refused for this reason.
     pub(super) fn take_unread(
         &mut self,
         why: Refusal,
