@@ -15,13 +15,12 @@ use Rattle.cox_shell.specs.ContentReply.{IsContentReply}
 use Rattle.cox_shell.specs.Blocks.{AreBlockLineReplies, IsListReply, IsEndOfList, list_answered}
 use Rattle.cox_shell.specs.ListReply.{IsReplyTo, IsReplyInList, unread_reply}
 use Rattle.cox_shell.specs.Answer.{IsClosing}
-use Rattle.cox_shell.specs.Keeping.{with_kept, with_next, KeepsState}
+use Rattle.cox_shell.specs.Keeping.{with_line, with_block}
 use Rattle.cox_shell.specs.Saying.{IsSaid}
 use Rattle.cox_shell.specs.AnsweredText.{Numbered, numbered, no_text, said_by, AnswersBlocks, AnswersList}
 use Rattle.cox_shell.specs.declared.session.Stage.{Stage}
 use Rattle.cox_shell.specs.declared.session.Stage.TheVariants.{Opened, Set}
 use Rattle.cox_shell.specs.SessionState.{state_of}
-use Rattle.cox_shell.proofs.KeptLists.{with_line-keeps, with_block-keeps}
 
 -- where none is open
 pub outside_reply : (state : State) (content : List ℕ) (reply : Reply) → state.list ≡ None → IsContentReply state content reply
@@ -31,15 +30,15 @@ outside_reply state content reply none is =
 
 -- a block begins, the list ends, or the line is kept
 pub next_reply : (state : State) (content : List ℕ) → IsSome state.list → list_word_of (tokens_of content) ≡ Some Next
-    → (after : State) × IsReplyTo state content (silence after) × KeepsState (with_next state) after
+    → (after : State) × IsReplyTo state content (silence after) × (with_block state ≡ after)
 next_reply state content some next = by_list state.list refl some where
   by_list : (o : Option OpenList) → state.list ≡ o → IsSome o
-      → (after : State) × IsReplyTo state content (silence after) × KeepsState (with_next state) after
+      → (after : State) × IsReplyTo state content (silence after) × (with_block state ≡ after)
   by_list None e some = absurd (cc some)
   by_list (Some list) e some = (
     record state { list = Some (then_block list) },
     rw e (rw next refl),
-    record { limits = refl; group = refl; list = rw e (with_block-keeps list) },
+    rw e refl,
   )
 
 pub end_reply : (state : State) (content : List ℕ) (reply : Reply) → list_word_of (tokens_of content) ≡ Some End
@@ -52,34 +51,34 @@ end_reply state content reply end is = by_list state.list is where
 
 pub keep_reply : (state : State) (content : List ℕ) → IsSome state.list → list_word_of (tokens_of content) ≡ None
     → (after : State) × IsReplyTo state content (silence after)
-    × KeepsState (with_kept state (record { content = content; refused = None })) after
+    × (with_line state (record { content = content; refused = None }) ≡ after)
 keep_reply state content some no_word = by_list state.list refl some where
   line : Kept
   line = record { content = content; refused = None }
 
   by_list : (o : Option OpenList) → state.list ≡ o → IsSome o
-      → (after : State) × IsReplyTo state content (silence after) × KeepsState (with_kept state line) after
+      → (after : State) × IsReplyTo state content (silence after) × (with_line state line ≡ after)
   by_list None e some = absurd (cc some)
   by_list (Some list) e some = (
     record state { list = Some (then_line list line) },
     rw e (rw no_word refl),
-    record { limits = refl; group = refl; list = rw e (with_line-keeps list line) },
+    rw e refl,
   )
 
 pub unread_kept : (state : State) (why : Refusal) → IsSome state.list
     → (after : State) × (unread_reply state why ≡ silence after)
-    × KeepsState (with_kept state (record { content = []; refused = Some why })) after
+    × (with_line state (record { content = []; refused = Some why }) ≡ after)
 unread_kept state why some = by_list state.list refl some where
   line : Kept
   line = record { content = []; refused = Some why }
 
   by_list : (o : Option OpenList) → state.list ≡ o → IsSome o
-      → (after : State) × (unread_reply state why ≡ silence after) × KeepsState (with_kept state line) after
+      → (after : State) × (unread_reply state why ≡ silence after) × (with_line state line ≡ after)
   by_list None e some = absurd (cc some)
   by_list (Some list) e some = (
     record state { list = Some (then_line list line) },
     rw e refl,
-    record { limits = refl; group = refl; list = rw e (with_line-keeps list line) },
+    rw e refl,
   )
 
 -- the state with this list open, or none
