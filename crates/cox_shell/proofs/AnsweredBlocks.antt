@@ -11,7 +11,7 @@ use Rattle.cox_command.specs.declared.refusal.Refusal.{Refusal}
 use Rattle.cox_command.specs.RefusalNumber.{refusal_number}
 use Rattle.cox_shell.specs.Reply.{Kept, State, Reply, closed}
 use Rattle.cox_shell.specs.OpenLists.{kept_lines}
-use Rattle.cox_shell.specs.Blocks.{AreKeptReplies}
+use Rattle.cox_shell.specs.Blocks.{AreBlockLineReplies}
 use Rattle.cox_shell.specs.AnsweredText.{Numbered, numbered, numbered_by, no_text, first_number, then_numbered}
 use Rattle.cox_shell.specs.AnsweredText.{AnswersLine, AnswersBlock, AnswersBlocks, AnswersList}
 
@@ -65,16 +65,17 @@ next_of list i d within = drop-cons list i d within ∙ ap (λ n. get_or list i 
     same n = omega arith
 
 -- the replies to some lines, and then to others
-pub both_replies : (state : State) (first rest : List Kept) (p q : List Reply) → AreKeptReplies state first p → AreKeptReplies state rest q
-    → AreKeptReplies state (first ++ rest) (p ++ q)
-both_replies state [] rest p q none are = subst (λ r. AreKeptReplies state rest (r ++ q)) (sym none) are
+pub both_replies : (state : State) (first rest : List Kept) (p q : List Reply) → AreBlockLineReplies state first p
+    → AreBlockLineReplies state rest q
+    → AreBlockLineReplies state (first ++ rest) (p ++ q)
+both_replies state [] rest p q none are = subst (λ r. AreBlockLineReplies state rest (r ++ q)) (sym none) are
 both_replies state (line ∷ first) rest [] q none are = absurd none
 both_replies state (line ∷ first) rest (reply ∷ p) q some are = (some.0, both_replies state first rest p q some.1 are)
 
 -- What the lines up to a place were answered: with the replies to those that follow, whatever these are, these are the replies to all.
 pub record HasAnswered (state : State) (lines : List Kept) (i : ℕ) (before now : Numbered) : Type 0 where
   pub answered : List Reply
-  pub goes : (rest : List Reply) → AreKeptReplies state (drop i lines) rest → AreKeptReplies state lines (answered ++ rest)
+  pub goes : (rest : List Reply) → AreBlockLineReplies state (drop i lines) rest → AreBlockLineReplies state lines (answered ++ rest)
   pub is : now ≡ then_numbered before (numbered answered)
 
 module _ (state : State) (lines : List Kept) where
@@ -85,7 +86,7 @@ module _ (state : State) (lines : List Kept) where
       → HasAnswered state lines i before now → AnswersLine state line now next → HasAnswered state lines (i + 1) before next
   HasAnswered-more i line before now next within at h one = record {
     answered = h.answered ++ one.0 ∷ [];
-    goes = λ rest more. subst (λ t. AreKeptReplies state lines t) (sym (append_assoc h.answered (one.0 ∷ []) rest))
+    goes = λ rest more. subst (λ t. AreBlockLineReplies state lines t) (sym (append_assoc h.answered (one.0 ∷ []) rest))
         (h.goes (one.0 ∷ rest) (rw (next_of lines i line within, ← at) (one.1, more)));
     is = one.2 ∙ ap (λ a. then_numbered a (numbered_by one.0)) h.is
         ∙ then_numbered-assoc before (numbered h.answered) (numbered_by one.0)
@@ -97,15 +98,15 @@ module _ (state : State) (lines : List Kept) where
       → AnswersBlock state lines before now
   HasAnswered-all i before now end h = (
     h.answered,
-    subst (λ t. AreKeptReplies state lines t) (append-nil h.answered) (h.goes [] (rw (drop_all i lines end) refl)),
+    subst (λ t. AreBlockLineReplies state lines t) (append-nil h.answered) (h.goes [] (rw (drop_all i lines end) refl)),
     h.is,
   )
 
 -- the same of blocks
 pub record HasAnsweredBlocks (state : State) (blocks : List (List Kept)) (i : ℕ) (before now : Numbered) : Type 0 where
   pub answered : List Reply
-  pub goes : (rest : List Reply) → AreKeptReplies state (kept_lines (drop i blocks)) rest
-      → AreKeptReplies state (kept_lines blocks) (answered ++ rest)
+  pub goes : (rest : List Reply) → AreBlockLineReplies state (kept_lines (drop i blocks)) rest
+      → AreBlockLineReplies state (kept_lines blocks) (answered ++ rest)
   pub is : now ≡ then_numbered before (numbered answered)
 
 module _ (state : State) (blocks : List (List Kept)) where
@@ -116,7 +117,7 @@ module _ (state : State) (blocks : List (List Kept)) where
       → HasAnsweredBlocks state blocks i before now → AnswersBlock state block now next → HasAnsweredBlocks state blocks (i + 1) before next
   HasAnsweredBlocks-more i block before now next within at h one = record {
     answered = h.answered ++ one.0;
-    goes = λ rest more. subst (λ t. AreKeptReplies state (kept_lines blocks) t) (sym (append_assoc h.answered one.0 rest))
+    goes = λ rest more. subst (λ t. AreBlockLineReplies state (kept_lines blocks) t) (sym (append_assoc h.answered one.0 rest))
         (h.goes (one.0 ++ rest) (rw (next_of blocks i block within, ← at)
         (both_replies state block (kept_lines (drop (i + 1) blocks)) one.0 rest one.1 more)));
     is = one.2 ∙ ap (λ a. then_numbered a (numbered one.0)) h.is ∙ then_numbered-assoc before (numbered h.answered) (numbered one.0)
@@ -127,7 +128,7 @@ module _ (state : State) (blocks : List (List Kept)) where
       → AnswersBlocks state blocks before now
   HasAnsweredBlocks-all i before now end h = (
     h.answered,
-    subst (λ t. AreKeptReplies state (kept_lines blocks) t) (append-nil h.answered) (h.goes [] (rw (drop_all i blocks end) refl)),
+    subst (λ t. AreBlockLineReplies state (kept_lines blocks) t) (append-nil h.answered) (h.goes [] (rw (drop_all i blocks end) refl)),
     h.is,
   )
 
@@ -136,7 +137,7 @@ pub AnswersList-both : (state : State) (first rest : List (List Kept)) (a b : Nu
     → AnswersList state rest b → AnswersList state (first ++ rest) (then_numbered a b)
 AnswersList-both state first rest a b p q = (
   p.0 ++ q.0,
-  subst (λ l. AreKeptReplies (closed state) l (p.0 ++ q.0)) (sym (flat_map-append (λ (block : List Kept). block) first rest))
+  subst (λ l. AreBlockLineReplies (closed state) l (p.0 ++ q.0)) (sym (flat_map-append (λ (block : List Kept). block) first rest))
       (both_replies (closed state) (kept_lines first) (kept_lines rest) p.0 q.0 p.1 q.1),
   ap (λ x. then_numbered x b) p.2 ∙ ap (λ x. then_numbered (numbered p.0) x) q.2 ∙ sym (numbered-append p.0 q.0),
 )

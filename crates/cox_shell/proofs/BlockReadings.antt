@@ -20,7 +20,7 @@ use Rattle.cox_shell.specs.declared.block_line.BlockLine.{BlockLine}
 use Rattle.cox_shell.specs.declared.block_line.BlockLine.TheVariants.{Blank, Ask, Refused}
 use Rattle.cox_shell.specs.Reply.{Kept, State, Reply, rank_of, refusal}
 use Rattle.cox_shell.specs.ContentReply.{IsContentReply}
-use Rattle.cox_shell.specs.Blocks.{IsKeptReply}
+use Rattle.cox_shell.specs.Blocks.{IsBlockLineReply}
 use Rattle.cox_shell.specs.BlockReading.{Gives, IsBlockReply}
 use Rattle.cox_shell.proofs.ContentReply.{IsContentReply-command, IsContentReply-refusal}
 
@@ -78,7 +78,8 @@ module _ (state : State) (content : List ℕ) (reply : Reply) where
   block_reply (Ask inquiry) read is = rw read.0 (IsContentReply-command state content (command.Ask inquiry) reply read.1 read.2 is)
   block_reply (Refused why) read is = by_refusal (block_refusal (tokens_of content)) why read is
 
-pub kept_reply-given : (state : State) (line : Kept) (gives : BlockLine) (rank : Option ℕ) → line.refused ≡ None → rank ≡ rank_of state
-    → Gives gives line.content rank → (reply : Reply) → IsBlockReply gives state reply → IsKeptReply state line reply
-kept_reply-given state line gives rank readable same read reply is =
+pub block_line_reply-given : (state : State) (line : Kept) (gives : BlockLine) (rank : Option ℕ) → line.refused ≡ None
+    → rank ≡ rank_of state
+    → Gives gives line.content rank → (reply : Reply) → IsBlockReply gives state reply → IsBlockLineReply state line reply
+block_line_reply-given state line gives rank readable same read reply is =
     rw readable (block_reply state line.content reply gives (subst (λ r. Gives gives line.content r) same read) is)

@@ -4,7 +4,7 @@ use Rattle.std.specs.Prelude.{All}
 use Rattle.cox_outside.specs.Line.{content_of}
 use Rattle.cox_shell.specs.Reply.{State, Reply}
 use Rattle.cox_shell.specs.ContentReply.{IsContentReply}
-use Rattle.cox_shell.specs.Blocks.{AreKeptReplies}
+use Rattle.cox_shell.specs.Blocks.{AreBlockLineReplies}
 use Rattle.cox_shell.specs.LineReply.{IsReply}
 use Rattle.cox_shell.specs.BlockScripts.{CanStand, kept_of}
 use Rattle.cox_shell.specs.Answer.{AreReplies}
@@ -13,7 +13,7 @@ use Rattle.cox_shell.proofs.OpenListReplies.{outside_reply}
 use Rattle.cox_shell.proofs.LineReplies.{AreReplies-cons}
 
 pub block-script : (state : State) → state.list ≡ None → (lines : List (List ℕ)) → All CanStand lines → (replies : List Reply)
-    → AreKeptReplies state (map kept_of lines) replies → AreReplies state lines replies
+    → AreBlockLineReplies state (map kept_of lines) replies → AreReplies state lines replies
 block-script state none [] can replies are = are
 block-script state none (line ∷ lines) can [] are = absurd are
 block-script state none (line ∷ lines) can (reply ∷ replies) are =

@@ -106,7 +106,7 @@ module _ (arguments : List (List ℕ)) (script : Option (List ℕ)) (old : Outle
         let all : List Reply = h.replies ++ cut.closing in (
           texts all,
           IsDue-replies lost arguments script supply.left all right
-              (inr (EndsReading-due limits script old state reader supply mid lost h cut.closing cut.closes cut.some)),
+              (inr (EndsReading-due limits script old state reader supply mid lost h cut.closing cut.closes cut.list_open)),
           texts h.replies ++ cut.prefix,
           (
             cut.is_prefix.0,
@@ -126,7 +126,7 @@ module _ (arguments : List (List ℕ)) (script : Option (List ℕ)) (old : Outle
     pub closing_lost : (lost : Bool) (h : EndsReading lost start end) (cut : IsClosingCut state mid new)
         → (replies : List Reply) × AreDueAtEnd lost limits script supply.left replies
     closing_lost lost h cut =
-        (h.replies ++ cut.closing, EndsReading-due limits script old state reader supply mid lost h cut.closing cut.closes cut.some)
+        (h.replies ++ cut.closing, EndsReading-due limits script old state reader supply mid lost h cut.closing cut.closes cut.list_open)
 
 -- where nothing was read no reply is due
 AreDue-none : (limits : Limits) (script : Option (List ℕ)) → AreDue limits script script []

@@ -27,7 +27,7 @@ use Rattle.cox_shell.specs.Status.{is_read_fault, is_write_fault}
 use Rattle.cox_shell.specs.Stopping.{status_of}
 use Rattle.cox_shell.specs.Reply.{State, Reply, texts}
 use Rattle.cox_shell.specs.Answer.{AreReplies, state_behind, has_quit, bytes_of}
-use Rattle.cox_shell.specs.Keeping.{KeepsState}
+use Rattle.cox_shell.specs.LineReply.{IsReply}
 use Rattle.cox_shell.specs.Run.{Stand, IsServed, IsCutOff, Serves, stopped_read_fault, stopped_write_fault}
 use Rattle.cox_shell.specs.Outcome.{HasRead, WritesPrefix, WritesAll, StopsThere, IsCutShort, AnswersAll, AnswersEnded}
 use Rattle.cox_shell.specs.Outcome.{AnswersToFault, AnswersToLimit, Runs}
@@ -35,9 +35,8 @@ use Rattle.cox_shell.proofs.KnownValues.{IfSome-made, IfSome-each}
 use Rattle.cox_shell.proofs.LineReplies.{AreReplies-one, AreReplies-quit}
 use Rattle.cox_shell.proofs.NoLines.{no_lines-end}
 use Rattle.cox_shell.proofs.TakenLines.{TakenLines, TakenLines-one, TakenLines-append, HasRead-taken, HasRead-begun, HasRead-limit}
-use Rattle.cox_shell.proofs.KeptStates.{none-kept, reply-kept, IsServedIn, served-kept}
 use Rattle.cox_shell.proofs.Quitting.{quits-closed}
-use Rattle.cox_shell.proofs.Progress.{state_behind-push}
+use Rattle.cox_shell.proofs.Progress.{state_behind-push, IsServedIn, served-behind}
 use Rattle.cox_shell.proofs.Progress.{Progress, going_lines, texts-push, has_refusal-push, has_quit-push, as_many-push}
 
 -- the replies so far are those to the lines so far
@@ -75,7 +74,7 @@ all_so_far : (refused : Bool) (old now next : Stand) (p : Progress refused old n
 all_so_far refused old now next p none same stays = record {
   replies = p.done;
   are_replies = no_more refused old now p none;
-  behind = subst (λ (state : State). KeepsState state (state_behind old.state p.done)) (sym stays) p.behind;
+  behind = stays ∙ p.behind;
   writes = subst (λ out. Writes (texts p.done) old.out out) (sym same) p.writes;
 }
 
@@ -116,7 +115,7 @@ meets_end refused old now next p read m whole same stays =
         are_all = inr (m.end, rw test (sym whole));
         replies = p.done;
         are_replies = so_far refused old now p;
-        behind = subst (λ (state : State). KeepsState state (state_behind old.state p.done)) (sym stays) p.behind;
+        behind = stays ∙ p.behind;
         writes = subst (λ out. Writes (texts p.done) old.out out) (sym same) p.writes;
       });
     }
@@ -179,14 +178,14 @@ ends_in_state refused old now next going p s =
         are_replies = IfSome-made (λ more. lines ++ more) (λ all. AreReplies old.state all replies) (lines_ahead old.ahead)
             (lines_ahead next.ahead) read.cut
             (IfSome-each (λ more. AreReplies old.state (lines ++ more) replies) (lines_ahead next.ahead) (λ more. all more));
-        behind = subst (λ (state : State). KeepsState next.state state) (sym (state_behind-push old.state p.done s.reply)) s.keeps;
+        behind = s.state_after ∙ sym (state_behind-push old.state p.done s.reply);
         writes = written;
       };
       refuses = has_refusal-push p.done s.reply refused false p.refuses s.refuses ∙ or-false refused;
       ends = rw quits (StopsThere-taken lines replies next.stop old.ahead next.ahead read
           (as_many-push p.done p.lines s.reply s.line p.as_many));
-      reading = inl (none-kept next.state s.reply.after s.keeps
-          (quits-closed (state_behind old.state p.done) s.line s.reply s.is_reply s.quitting));
+      reading = inl (ap (λ (state : State). state.list) s.state_after
+          ∙ quits-closed (state_behind old.state p.done) s.line s.reply s.is_reply s.quitting);
     } where
       all : (more : List (List ℕ)) → AreReplies old.state ((p.lines ++ s.line ∷ []) ++ more) (p.done ++ s.reply ∷ [])
       all more = subst (λ lines. AreReplies old.state lines (p.done ++ s.reply ∷ [])) (sym (append_assoc p.lines (s.line ∷ []) more))
@@ -196,7 +195,7 @@ ends_in_state refused old now next going p s =
 pub ends_at_quit : (refused : Bool) (old now next : Stand) → now.stop ≡ None → Progress refused old now → IsServed false true now next
     → AnswersAll refused old next
 ends_at_quit refused old now next going p served = ends_in_state refused old now next going p
-    (served-kept false true (state_behind old.state p.done) now next p.behind served)
+    (served-behind false true (state_behind old.state p.done) now next p.behind served)
 
 -- the lines so far are those that end among the bytes so far and the beginning of a line
 ended_so_far : (refused : Bool) (old now next : Stand) (p : Progress refused old now) (read : TakenLines p.lines None old.ahead now.ahead)
@@ -211,7 +210,7 @@ ended_so_far refused old now next p read begun unbroken part none_pending within
   are_replies = subst (λ lines. AreReplies old.state lines p.done)
       (sym (read.ended refl begun ∙ ap (λ l. p.lines ++ l) (ended_lines-none begun unbroken) ∙ append-nil p.lines))
       (so_far refused old now p);
-  behind = subst (λ (state : State). KeepsState state (state_behind old.state p.done)) (sym stays) p.behind;
+  behind = stays ∙ p.behind;
   none_quits = p.quits;
   writes = subst (λ out. Writes (texts p.done) old.out out) (sym same) p.writes;
 }
@@ -250,11 +249,12 @@ pub ends_cut_off : (refused : Bool) (old now next : Stand) → now.stop ≡ None
     → (short : IsCutShort old next)
     × (IfSome now.out.room (λ left. left < length cut.reply.text) → IfSome old.out.room (λ left. left < length (texts short.part.replies)))
 ends_cut_off refused old now next going p cut =
-    let is = reply-kept now.state (state_behind old.state p.done) p.behind cut.taken.line cut.reply cut.taken.is_reply in
-    let reply = is.0 in
+    let reply : Reply = cut.reply in
+    let is : IsReply (state_behind old.state p.done) cut.taken.line reply =
+    subst (λ (state : State). IsReply state cut.taken.line reply) p.behind cut.taken.is_reply in
     let lines : List (List ℕ) = p.lines ++ cut.taken.line ∷ [] in
     let replies : List Reply = p.done ++ reply ∷ [] in
-    let joined : texts replies ≡ texts p.done ++ cut.reply.text = texts-push p.done reply ∙ ap (λ t. texts p.done ++ t) is.2.text in
+    let joined : texts replies ≡ texts p.done ++ cut.reply.text = texts-push p.done reply in
     let read : TakenLines lines next.stop old.ahead next.ahead =
     TakenLines-append p.lines (cut.taken.line ∷ []) next.stop old.ahead now.ahead next.ahead
     (going_lines refused old now going p) (TakenLines-one next.stop cut.taken.line now.ahead next.ahead cut.taken.takes) in (
@@ -264,7 +264,7 @@ ends_cut_off refused old now next going p cut =
           has_read = HasRead-taken lines next.stop old.ahead next.ahead read;
           replies = replies;
           are_replies = p.says (cut.taken.line ∷ []) (reply ∷ [])
-              (AreReplies-one (state_behind old.state p.done) cut.taken.line reply is.1);
+              (AreReplies-one (state_behind old.state p.done) cut.taken.line reply is);
           prefix = texts p.done ++ cut.prefix;
           is_prefix = (
             cut.is_prefix.0,

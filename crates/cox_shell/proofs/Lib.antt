@@ -64,8 +64,10 @@ pub mod Counts
 pub mod OpenListReplies
 -- what is kept of a list
 pub mod KeptLists
--- what a session answers that keeps less of a list that is too long
-pub mod KeptStates
+-- snapshots of blocks, for walks
+pub mod Snapshots
+-- sessions and blocks are shared by threads
+pub mod Shared
 -- what ending an open list does at the end of reading
 pub mod ClosedLists
 -- each script has an answer

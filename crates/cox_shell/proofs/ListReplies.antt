@@ -11,8 +11,8 @@ use Rattle.cox_command.specs.BlockLines.{block_refusal, list_word_of}
 use Rattle.cox_shell.specs.Reply.{Kept, OpenList, State, Reply, closed, refusal, silence}
 use Rattle.cox_shell.specs.ContentReply.{IsContentReply}
 use Rattle.cox_shell.specs.OpenLists.{kept_lines, is_long, then_block}
-use Rattle.cox_shell.specs.Blocks.{IsKeptReply, AreKeptReplies, IsListReply, list_answered}
-use Rattle.cox_shell.specs.ListReply.{IsWordReply, IsReplyInList, IsReplyTo, kept_reply, unread_reply}
+use Rattle.cox_shell.specs.Blocks.{IsBlockLineReply, AreBlockLineReplies, IsListReply, list_answered}
+use Rattle.cox_shell.specs.ListReply.{IsWordReply, IsReplyInList, IsReplyTo, silent_keeping, unread_reply}
 use Rattle.cox_shell.proofs.KeptLines.{kept_refusal}
 use Rattle.cox_shell.proofs.ContentReply.{IsContentReply-unique}
 use Rattle.cox_shell.proofs.ContentReplyExists.{IsContentReply-exists}
@@ -31,25 +31,26 @@ some_option (Some why) P state p = (refusal state why, refl)
 
 module _ (state : State) (matrix : HasMatrix state) where
   -- a line of a block has one reply
-  IsKeptReply-unique : (line : Kept) (one other : Reply) → IsKeptReply state line one → IsKeptReply state line other → one ≡ other
-  IsKeptReply-unique line = by_option (option_or line.refused (block_refusal (tokens_of line.content)))
+  IsBlockLineReply-unique : (line : Kept) (one other : Reply) → IsBlockLineReply state line one
+      → IsBlockLineReply state line other → one ≡ other
+  IsBlockLineReply-unique line = by_option (option_or line.refused (block_refusal (tokens_of line.content)))
       (λ r. IsContentReply state line.content r) state (IsContentReply-unique state line.content matrix)
 
-  kept-exists : (line : Kept) → (reply : Reply) × IsKeptReply state line reply
+  kept-exists : (line : Kept) → (reply : Reply) × IsBlockLineReply state line reply
   kept-exists line = some_option (option_or line.refused (block_refusal (tokens_of line.content)))
       (λ r. IsContentReply state line.content r) state (IsContentReply-exists state line.content matrix)
 
   -- kept lines are answered in one way
-  pub AreKeptReplies-unique : (lines : List Kept) (one other : List Reply) → AreKeptReplies state lines one
-      → AreKeptReplies state lines other → one ≡ other
-  AreKeptReplies-unique [] one other p q = p ∙ sym q
-  AreKeptReplies-unique (line ∷ lines) [] other p q = absurd p
-  AreKeptReplies-unique (line ∷ lines) (reply ∷ one) [] p q = absurd q
-  AreKeptReplies-unique (line ∷ lines) (reply ∷ one) (also ∷ other) p q =
-      ap (λ l. reply ∷ l) (AreKeptReplies-unique lines one other p.1 q.1)
-      ∙ ap (λ r. r ∷ other) (IsKeptReply-unique line reply also p.0 q.0)
+  pub AreBlockLineReplies-unique : (lines : List Kept) (one other : List Reply) → AreBlockLineReplies state lines one
+      → AreBlockLineReplies state lines other → one ≡ other
+  AreBlockLineReplies-unique [] one other p q = p ∙ sym q
+  AreBlockLineReplies-unique (line ∷ lines) [] other p q = absurd p
+  AreBlockLineReplies-unique (line ∷ lines) (reply ∷ one) [] p q = absurd q
+  AreBlockLineReplies-unique (line ∷ lines) (reply ∷ one) (also ∷ other) p q =
+      ap (λ l. reply ∷ l) (AreBlockLineReplies-unique lines one other p.1 q.1)
+      ∙ ap (λ r. r ∷ other) (IsBlockLineReply-unique line reply also p.0 q.0)
 
-  replies-exist : (lines : List Kept) → (replies : List Reply) × AreKeptReplies state lines replies
+  replies-exist : (lines : List Kept) → (replies : List Reply) × AreBlockLineReplies state lines replies
   replies-exist [] = ([], refl)
   replies-exist (line ∷ lines) =
       let one = kept-exists line in let rest = replies-exist lines in (one.0 ∷ rest.0, (one.1, rest.1))
@@ -59,18 +60,20 @@ pub IsListReply-unique : (state : State) → HasMatrix state → (list : OpenLis
     → IsListReply state list other → one ≡ other
 IsListReply-unique state matrix list one other p q = by_test (is_long list) p q where
   by_test : (b : Bool) → MatchBool b (one ≡ refusal (closed state) LongList)
-      ((replies : List Reply) × AreKeptReplies (closed state) (kept_lines list) replies × (one ≡ list_answered (closed state) replies))
+      ((replies : List Reply) × AreBlockLineReplies (closed state) (kept_lines list) replies × (one ≡ list_answered (closed state) replies))
       → MatchBool b (other ≡ refusal (closed state) LongList)
-      ((replies : List Reply) × AreKeptReplies (closed state) (kept_lines list) replies × (other ≡ list_answered (closed state) replies))
+      ((replies : List Reply) × AreBlockLineReplies (closed state) (kept_lines list) replies
+      × (other ≡ list_answered (closed state) replies))
       → one ≡ other
   by_test true p q = p ∙ sym q
   by_test false p q = p.2
-      ∙ ap (list_answered (closed state)) (AreKeptReplies-unique (closed state) matrix (kept_lines list) p.0 q.0 p.1 q.1) ∙ sym q.2
+      ∙ ap (list_answered (closed state)) (AreBlockLineReplies-unique (closed state) matrix (kept_lines list) p.0 q.0 p.1 q.1) ∙ sym q.2
 
 pub IsListReply-exists : (state : State) → HasMatrix state → (list : OpenList) → (reply : Reply) × IsListReply state list reply
 IsListReply-exists state matrix list = by_test (is_long list) where
   by_test : (b : Bool) → (reply : Reply) × MatchBool b (reply ≡ refusal (closed state) LongList)
-      ((replies : List Reply) × AreKeptReplies (closed state) (kept_lines list) replies × (reply ≡ list_answered (closed state) replies))
+      ((replies : List Reply) × AreBlockLineReplies (closed state) (kept_lines list) replies
+      × (reply ≡ list_answered (closed state) replies))
   by_test true = (refusal (closed state) LongList, refl)
   by_test false =
       let replies = replies-exist (closed state) matrix (kept_lines list) in
@@ -81,7 +84,8 @@ pub IsListReply-closed : (state : State) (list : OpenList) (reply : Reply) → I
     → (reply.after ≡ closed state) × (reply.quits ≡ false)
 IsListReply-closed state list reply is = by_test (is_long list) is where
   by_test : (b : Bool) → MatchBool b (reply ≡ refusal (closed state) LongList)
-      ((replies : List Reply) × AreKeptReplies (closed state) (kept_lines list) replies × (reply ≡ list_answered (closed state) replies))
+      ((replies : List Reply) × AreBlockLineReplies (closed state) (kept_lines list) replies
+      × (reply ≡ list_answered (closed state) replies))
       → (reply.after ≡ closed state) × (reply.quits ≡ false)
   by_test true is = (ap (λ (r : Reply). r.after) is, ap (λ (r : Reply). r.quits) is)
   by_test false is = (ap (λ (r : Reply). r.after) is.2, ap (λ (r : Reply). r.quits) is.2)
@@ -91,9 +95,9 @@ module _ (state : State) (list : OpenList) (content : List ℕ) where
       → one ≡ other
   in_list-unique matrix one other p q = by_word (list_word_of (tokens_of content)) p q where
     by_word : (o : Option ListWord)
-        → MatchOption o (one ≡ kept_reply state list (record { content = content; refused = None }))
+        → MatchOption o (one ≡ silent_keeping state list (record { content = content; refused = None }))
         (λ word. IsWordReply word state list one)
-        → MatchOption o (other ≡ kept_reply state list (record { content = content; refused = None }))
+        → MatchOption o (other ≡ silent_keeping state list (record { content = content; refused = None }))
         (λ word. IsWordReply word state list other) → one ≡ other
     by_word None p q = p ∙ sym q
     by_word (Some Next) p q = p ∙ sym q
@@ -102,9 +106,9 @@ module _ (state : State) (list : OpenList) (content : List ℕ) where
   in_list-exists : HasMatrix state → (reply : Reply) × IsReplyInList state list content reply
   in_list-exists matrix = by_word (list_word_of (tokens_of content)) where
     by_word : (o : Option ListWord) → (reply : Reply)
-        × MatchOption o (reply ≡ kept_reply state list (record { content = content; refused = None }))
+        × MatchOption o (reply ≡ silent_keeping state list (record { content = content; refused = None }))
         (λ word. IsWordReply word state list reply)
-    by_word None = (kept_reply state list (record { content = content; refused = None }), refl)
+    by_word None = (silent_keeping state list (record { content = content; refused = None }), refl)
     by_word (Some Next) = (silence (record state { list = Some (then_block list) }), refl)
     by_word (Some End) = IsListReply-exists state matrix list
 
@@ -112,7 +116,7 @@ module _ (state : State) (list : OpenList) (content : List ℕ) where
   pub in_list-group : (reply : Reply) → IsReplyInList state list content reply → (reply.after.group ≡ state.group) × (reply.quits ≡ false)
   in_list-group reply is = by_word (list_word_of (tokens_of content)) is where
     by_word : (o : Option ListWord)
-        → MatchOption o (reply ≡ kept_reply state list (record { content = content; refused = None }))
+        → MatchOption o (reply ≡ silent_keeping state list (record { content = content; refused = None }))
         (λ word. IsWordReply word state list reply) → (reply.after.group ≡ state.group) × (reply.quits ≡ false)
     by_word None is = (ap (λ (r : Reply). r.after.group) is, ap (λ (r : Reply). r.quits) is)
     by_word (Some Next) is = (ap (λ (r : Reply). r.after.group) is, ap (λ (r : Reply). r.quits) is)
@@ -151,8 +155,8 @@ unread-matrix state why matrix = by_list state.list where
   by_list (Some list) = matrix
 
 -- the replies to some lines and then to others are those to the one and to the others
-pub split_replies : (state : State) (first rest : List Kept) (all : List Reply) → AreKeptReplies state (first ++ rest) all
-    → (p : List Reply) × (q : List Reply) × AreKeptReplies state first p × AreKeptReplies state rest q × (all ≡ p ++ q)
+pub split_replies : (state : State) (first rest : List Kept) (all : List Reply) → AreBlockLineReplies state (first ++ rest) all
+    → (p : List Reply) × (q : List Reply) × AreBlockLineReplies state first p × AreBlockLineReplies state rest q × (all ≡ p ++ q)
 split_replies state [] rest all are = ([], all, refl, are, refl)
 split_replies state (line ∷ first) rest [] are = absurd are
 split_replies state (line ∷ first) rest (reply ∷ all) are =

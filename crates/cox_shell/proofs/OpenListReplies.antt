@@ -12,16 +12,15 @@ use Rattle.cox_command.specs.BlockLines.{list_word_of}
 use Rattle.cox_shell.specs.Reply.{Kept, OpenList, State, Reply, closed, refusal, silence}
 use Rattle.cox_shell.specs.OpenLists.{then_line, then_block, kept_lines, is_long}
 use Rattle.cox_shell.specs.ContentReply.{IsContentReply}
-use Rattle.cox_shell.specs.Blocks.{AreKeptReplies, IsListReply, IsEndOfList, list_answered}
+use Rattle.cox_shell.specs.Blocks.{AreBlockLineReplies, IsListReply, IsEndOfList, list_answered}
 use Rattle.cox_shell.specs.ListReply.{IsReplyTo, IsReplyInList, unread_reply}
 use Rattle.cox_shell.specs.Answer.{IsClosing}
-use Rattle.cox_shell.specs.Keeping.{with_kept, with_next, KeepsState}
+use Rattle.cox_shell.specs.Keeping.{with_line, with_block}
 use Rattle.cox_shell.specs.Saying.{IsSaid}
 use Rattle.cox_shell.specs.AnsweredText.{Numbered, numbered, no_text, said_by, AnswersBlocks, AnswersList}
 use Rattle.cox_shell.specs.declared.session.Stage.{Stage}
 use Rattle.cox_shell.specs.declared.session.Stage.TheVariants.{Opened, Set}
 use Rattle.cox_shell.specs.SessionState.{state_of}
-use Rattle.cox_shell.proofs.KeptLists.{with_line-keeps, with_block-keeps}
 
 -- where none is open
 pub outside_reply : (state : State) (content : List ℕ) (reply : Reply) → state.list ≡ None → IsContentReply state content reply
@@ -31,15 +30,15 @@ outside_reply state content reply none is =
 
 -- a block begins, the list ends, or the line is kept
 pub next_reply : (state : State) (content : List ℕ) → IsSome state.list → list_word_of (tokens_of content) ≡ Some Next
-    → (after : State) × IsReplyTo state content (silence after) × KeepsState (with_next state) after
+    → (after : State) × IsReplyTo state content (silence after) × (with_block state ≡ after)
 next_reply state content some next = by_list state.list refl some where
   by_list : (o : Option OpenList) → state.list ≡ o → IsSome o
-      → (after : State) × IsReplyTo state content (silence after) × KeepsState (with_next state) after
+      → (after : State) × IsReplyTo state content (silence after) × (with_block state ≡ after)
   by_list None e some = absurd (cc some)
   by_list (Some list) e some = (
     record state { list = Some (then_block list) },
     rw e (rw next refl),
-    record { limits = refl; group = refl; list = rw e (with_block-keeps list) },
+    rw e refl,
   )
 
 pub end_reply : (state : State) (content : List ℕ) (reply : Reply) → list_word_of (tokens_of content) ≡ Some End
@@ -52,34 +51,34 @@ end_reply state content reply end is = by_list state.list is where
 
 pub keep_reply : (state : State) (content : List ℕ) → IsSome state.list → list_word_of (tokens_of content) ≡ None
     → (after : State) × IsReplyTo state content (silence after)
-    × KeepsState (with_kept state (record { content = content; refused = None })) after
+    × (with_line state (record { content = content; refused = None }) ≡ after)
 keep_reply state content some no_word = by_list state.list refl some where
   line : Kept
   line = record { content = content; refused = None }
 
   by_list : (o : Option OpenList) → state.list ≡ o → IsSome o
-      → (after : State) × IsReplyTo state content (silence after) × KeepsState (with_kept state line) after
+      → (after : State) × IsReplyTo state content (silence after) × (with_line state line ≡ after)
   by_list None e some = absurd (cc some)
   by_list (Some list) e some = (
     record state { list = Some (then_line list line) },
     rw e (rw no_word refl),
-    record { limits = refl; group = refl; list = rw e (with_line-keeps list line) },
+    rw e refl,
   )
 
 pub unread_kept : (state : State) (why : Refusal) → IsSome state.list
     → (after : State) × (unread_reply state why ≡ silence after)
-    × KeepsState (with_kept state (record { content = []; refused = Some why })) after
+    × (with_line state (record { content = []; refused = Some why }) ≡ after)
 unread_kept state why some = by_list state.list refl some where
   line : Kept
   line = record { content = []; refused = Some why }
 
   by_list : (o : Option OpenList) → state.list ≡ o → IsSome o
-      → (after : State) × (unread_reply state why ≡ silence after) × KeepsState (with_kept state line) after
+      → (after : State) × (unread_reply state why ≡ silence after) × (with_line state line ≡ after)
   by_list None e some = absurd (cc some)
   by_list (Some list) e some = (
     record state { list = Some (then_line list line) },
     rw e refl,
-    record { limits = refl; group = refl; list = rw e (with_line-keeps list line) },
+    rw e refl,
   )
 
 -- the state with this list open, or none
@@ -94,17 +93,19 @@ module _ (state : State) (list : OpenList) where
   -- the reply to a list, by whether it is long
   of_test : (b : Bool) (reply : Reply) → is_long list ≡ b
       → MatchBool b (reply ≡ refusal (closed state) LongList)
-      ((replies : List Reply) × AreKeptReplies (closed state) (kept_lines list) replies × (reply ≡ list_answered (closed state) replies))
+      ((replies : List Reply) × AreBlockLineReplies (closed state) (kept_lines list) replies
+      × (reply ≡ list_answered (closed state) replies))
       → IsListReply state list reply
   of_test b reply test is = subst (λ b. MatchBool b (reply ≡ refusal (closed state) LongList)
-      ((replies : List Reply) × AreKeptReplies (closed state) (kept_lines list) replies × (reply ≡ list_answered (closed state) replies)))
+      ((replies : List Reply) × AreBlockLineReplies (closed state) (kept_lines list) replies
+      × (reply ≡ list_answered (closed state) replies)))
       (sym test) is
 
   -- it is refused, or is what its blocks are answered
   pub long_reply : state.list ≡ None → is_long list ≡ true → IsListReply state list (refusal state LongList)
   long_reply none long = of_test true (refusal state LongList) long (ap (λ s. refusal s LongList) (sym (closed-same state none)))
 
-  pub short_reply : (replies : List Reply) → is_long list ≡ false → AreKeptReplies (closed state) (kept_lines list) replies
+  pub short_reply : (replies : List Reply) → is_long list ≡ false → AreBlockLineReplies (closed state) (kept_lines list) replies
       → IsListReply state list (list_answered (closed state) replies)
   short_reply replies short are = of_test false (list_answered (closed state) replies) short (replies, are, refl)
 

@@ -8,12 +8,12 @@ use Rattle.std.proofs.lemmas.Grind.{flat_map-append}
 use Rattle.std.proofs.Math.Bool.{or-false, or-true}
 use Rattle.cox_outside.specs.Feed.{HasFewPending}
 use Rattle.cox_outside.specs.Outlet.{Writes}
+use Rattle.cox_outside.specs.Reader.{TakesNext}
 use Rattle.cox_outside.proofs.Known.{Writes-none, Writes-append}
 use Rattle.cox_shell.specs.Reply.{State, Reply, texts}
 use Rattle.cox_shell.specs.Answer.{AreReplies, state_behind, has_refusal, has_quit}
-use Rattle.cox_shell.specs.Keeping.{KeepsState}
+use Rattle.cox_shell.specs.LineReply.{IsReply}
 use Rattle.cox_shell.specs.Run.{Stand, IsServed}
-use Rattle.cox_shell.proofs.KeptStates.{KeepsState-same, served-kept}
 use Rattle.cox_shell.proofs.LineReplies.{AreReplies-cons, AreReplies-rejoin}
 use Rattle.cox_shell.proofs.TakenLines.{TakenLines, TakenLines-none, TakenLines-one, TakenLines-append}
 
@@ -25,7 +25,7 @@ pub record Progress (refused : Bool) (old now : Stand) : Type 0 where
   pub as_many : length done ≡ length lines
   pub says : (more : List (List ℕ)) (rest : List Reply) → AreReplies (state_behind old.state done) more rest
       → AreReplies old.state (lines ++ more) (done ++ rest)
-  pub behind : KeepsState now.state (state_behind old.state done)
+  pub behind : now.state ≡ state_behind old.state done
   pub writes : Writes (texts done) old.out now.out
   pub refuses : has_refusal done ≡ refused
   pub quits : has_quit done ≡ false
@@ -67,7 +67,7 @@ Progress-start here going few = record {
   done = [];
   as_many = refl;
   says = λ more rest h. h;
-  behind = KeepsState-same here.state here.state refl;
+  behind = refl;
   writes = Writes-none here.out;
   refuses = refl;
   quits = refl;
@@ -78,11 +78,35 @@ pub going_lines : (refused : Bool) (old now : Stand) → now.stop ≡ None → (
     → TakenLines p.lines None old.ahead now.ahead
 going_lines refused old now going p = subst (λ halt. TakenLines p.lines halt old.ahead now.ahead) going p.read
 
+-- A line was taken and its reply written, which is the reply in this state.
+pub record IsServedIn (refused quits : Bool) (state : State) (old new : Stand) : Type 0 where
+  pub line : List ℕ
+  pub takes : TakesNext new.stop line old.ahead new.ahead
+  pub reply : Reply
+  pub is_reply : IsReply state line reply
+  pub writes : Writes reply.text old.out new.out
+  pub state_after : new.state ≡ reply.after
+  pub refuses : is_some reply.refused ≡ refused
+  pub quitting : reply.quits ≡ quits
+
+pub served-behind : (refused quits : Bool) (state : State) (old new : Stand) → old.state ≡ state → IsServed refused quits old new
+    → IsServedIn refused quits state old new
+served-behind refused quits state old new same s = record {
+  line = s.taken.line;
+  takes = s.taken.takes;
+  reply = s.reply;
+  is_reply = subst (λ (state : State). IsReply state s.taken.line s.reply) same s.taken.is_reply;
+  writes = s.writes;
+  state_after = s.state_after;
+  refuses = s.refuses;
+  quitting = s.quitting;
+}
+
 -- one more line was served, which does not end the run
 Progress-more : (before refused : Bool) (old now next : Stand) → now.stop ≡ None → Progress before old now
     → IsServed refused false now next → Progress (before || refused) old next
 Progress-more before refused old now next going p served =
-    let s = served-kept refused false (state_behind old.state p.done) now next p.behind served in
+    let s = served-behind refused false (state_behind old.state p.done) now next p.behind served in
     let after = state_behind-push old.state p.done s.reply in
     record {
       lines = p.lines ++ s.line ∷ [];
@@ -94,7 +118,7 @@ Progress-more before refused old now next going p served =
           (p.says (s.line ∷ more) (s.reply ∷ rest)
           (AreReplies-cons (state_behind old.state p.done) (state_behind old.state (p.done ++ s.reply ∷ [])) s.line s.reply more rest
           s.is_reply s.quitting after h));
-      behind = subst (λ (state : State). KeepsState next.state state) (sym after) s.keeps;
+      behind = s.state_after ∙ sym after;
       writes = subst (λ t. Writes t old.out next.out) (sym (texts-push p.done s.reply))
           (Writes-append (texts p.done) s.reply.text old.out now.out next.out p.writes s.writes);
       refuses = has_refusal-push p.done s.reply before refused p.refuses s.refuses;

@@ -207,9 +207,9 @@ module _ (arguments : List (List ℕ)) (source : Supply) (state : State) (reader
       one_more true = refl
       one_more false = refl
   whole-ends before h closed.WriteFault c reads writes more =
-      run-closing false (in_list false h.reading c.0.some) c.0 reads (later true writes more) c.1
+      run-closing false (in_list false h.reading c.0.list_open) c.0 reads (later true writes more) c.1
   whole-ends before h closed.NoMemory c reads writes more =
-      run-closing_memory false (in_list false h.reading c.some) c reads (later false writes more)
+      run-closing_memory false (in_list false h.reading c.list_open) c reads (later false writes more)
 
   -- a read failed
   fault-ends : RunsOver ReadFault → (closed : Closed) → Closes closed state mid new → SourceCause source left true
@@ -290,9 +290,9 @@ module _ (arguments : List (List ℕ)) (source : Supply) (state : State) (reader
       not_cut true which = ⊎_elim (λ e. cc e) (λ e. cc e) which
       not_cut false which = ⊎_elim (λ e. cc e) (λ e. cc e) which
   read-whole-ends before h closed.WriteFault c takes =
-      read-closing WriteFault false (λ e. absurd (cc e)) (in_list false h.reading c.0.some) c.0 takes
+      read-closing WriteFault false (λ e. absurd (cc e)) (in_list false h.reading c.0.list_open) c.0 takes
   read-whole-ends before h closed.NoMemory c takes =
-      read-closing NoMemory false (λ e. absurd (cc e)) (in_list false h.reading c.some) c takes
+      read-closing NoMemory false (λ e. absurd (cc e)) (in_list false h.reading c.list_open) c takes
 
   read-other-ends : (ended : Status) → (ended ≡ ReadFault) ⊎ (ended ≡ InputLimit) → (lost : Bool)
       → (lost ≡ true → SourceCause source left true) → Reading lost

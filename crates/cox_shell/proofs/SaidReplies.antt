@@ -1,6 +1,6 @@
 -- What the calls that answer say of a reply.
 use Rattle.std.proofs.Common.{◌≡◌, ℕ, true, List, [], ◌∷◌, ◌++◌, Result, Ok, Err, IfOk, OnErr, Option, Some, None, IsSomeAnd, inl, inr}
-use Rattle.std.proofs.Common.{refl, sym, ap, ◌∙◌, subst}
+use Rattle.std.proofs.Common.{refl, sym, ap, ◌∙◌}
 use Rattle.std.proofs.lemmas.List.{append-nil}
 use Rattle.std.specs.declared.alloc.AllocError.{AllocError}
 use Rattle.cox_base.specs.Matrix.{CoxeterMatrix}
@@ -17,10 +17,8 @@ use Rattle.cox_shell.specs.CommandReply.{IsDecided, IsCommandReply}
 use Rattle.cox_replies.specs.InquiryQuestion.{question_of}
 use Rattle.cox_shell.specs.CommandReply.{Answers, IsInquiryReply}
 use Rattle.cox_replies.proofs.Unless.{PutsPrefix-none}
-use Rattle.cox_shell.specs.Saying.{Says, SaysKept, SaysPrefix, SaysText, Concludes}
+use Rattle.cox_shell.specs.Saying.{Says, SaysPrefix, SaysText, Concludes}
 use Rattle.cox_replies.specs.Putting.{PutsUnless, IsEnded}
-use Rattle.cox_shell.specs.Keeping.{KeepsState}
-use Rattle.cox_shell.proofs.KeptStates.{KeepsState-same}
 
 -- nothing is said to a line that is answered nothing
 pub Says-silence : (state new : State) (out : List ℕ) → new ≡ state → Says Answered (silence state) new out out
@@ -111,25 +109,11 @@ pub SaysPrefix-broken : (result : Result Said AllocError) (reply : Reply) (state
 SaysPrefix-broken (Ok said) reply state before after puts = tt
 SaysPrefix-broken (Err error) reply state before after puts = record { puts_prefix = puts; same_state = refl }
 
--- what was said is what was said and kept
-pub Says-kept : (result : Result Said AllocError) (Was Is : Reply → Type 0) (state : State) (before after : List ℕ)
-    → ((reply : Reply) → Was reply → Is reply)
-    → IfOk result (λ said. (reply : Reply) × Was reply × Says said reply state before after)
-    → IfOk result (λ said. (reply : Reply) × Is reply × SaysKept said reply state before after)
-Says-kept (Ok said) Was Is state before after of (reply, was, says) =
-    (reply, of reply was, record { is_said = says.is_said; text = says.text; keeps = KeepsState-same state reply.after says.state_after })
-Says-kept (Err error) Was Is state before after of says = tt
-
 -- nothing is said to a line that is kept, or that begins a block
-kept-silence : (state kept after : State) (out : List ℕ) → state ≡ kept → KeepsState kept after
-    → SaysKept Answered (silence after) state out out
-kept-silence state kept after out same keeps =
-    record { is_said = (refl, refl); text = sym (append-nil out); keeps = subst (λ (s : State). KeepsState s after) (sym same) keeps }
-
 pub silent-says : (result : Result Said AllocError) (next kept after : State) (Is : Reply → Type 0) (out : List ℕ) → Is (silence after)
-    → KeepsState kept after → IfOk result (λ said. (said ≡ Answered) × (next ≡ kept))
-    → IfOk result (λ said. (reply : Reply) × Is reply × SaysKept said reply next out out)
-silent-says (Ok said) next kept after Is out is keeps done = (silence after, is, rw done.0 (kept-silence next kept after out done.1 keeps))
+    → kept ≡ after → IfOk result (λ said. (said ≡ Answered) × (next ≡ kept))
+    → IfOk result (λ said. (reply : Reply) × Is reply × Says said reply next out out)
+silent-says (Ok said) next kept after Is out is keeps done = (silence after, is, rw done.0 (Says-silence after next out (done.1 ∙ keeps)))
 silent-says (Err error) next kept after Is out is keeps done = tt
 
 pub silent-breaks : (result : Result Said AllocError) (old next after : State) (Is : Reply → Type 0) (out : List ℕ) → Is (silence after)
@@ -140,9 +124,9 @@ silent-breaks (Err error) old next after Is out is same =
 
 -- the same of the one reply that is right
 pub silent-one : (result : Result Said AllocError) (next kept after : State) (reply : Reply) (out : List ℕ) → reply ≡ silence after
-    → KeepsState kept after → IfOk result (λ said. (said ≡ Answered) × (next ≡ kept))
-    → IfOk result (λ said. SaysKept said reply next out out)
-silent-one (Ok said) next kept after reply out is keeps done = rw (done.0, is) (kept-silence next kept after out done.1 keeps)
+    → kept ≡ after → IfOk result (λ said. (said ≡ Answered) × (next ≡ kept))
+    → IfOk result (λ said. Says said reply next out out)
+silent-one (Ok said) next kept after reply out is keeps done = rw (done.0, is) (Says-silence after next out (done.1 ∙ keeps))
 silent-one (Err error) next kept after reply out is keeps done = tt
 
 -- a reply that was broken off, without the state

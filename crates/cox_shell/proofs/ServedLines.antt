@@ -19,7 +19,7 @@ use Rattle.cox_outside.specs.Outlet.{Writes}
 use Rattle.cox_shell.specs.Reply.{State, Reply}
 use Rattle.cox_shell.specs.ListReply.{IsReplyTo, unread_reply}
 use Rattle.cox_shell.specs.LineReply.{content_refusal}
-use Rattle.cox_shell.specs.Saying.{SaysKept}
+use Rattle.cox_shell.specs.Saying.{Says}
 use Rattle.cox_shell.specs.declared.status.Stopped.{Stopped}
 use Rattle.cox_shell.specs.declared.status.Stopped.TheVariants as why
 use Rattle.cox_outside.proofs.Known.{Writes-none}
@@ -45,12 +45,12 @@ pub answers_refused : (said : Result Said AllocError) (why : Refusal) (line : Li
     (old new : Ahead)
     (before after : List ℕ)
     → content_refusal (content_of line) ≡ Some why → TakesNext halt line old new → before ≡ []
-    → IfOk said (λ s. (reply : Reply) × (reply ≡ unread_reply state why) × SaysKept s reply next before after)
+    → IfOk said (λ s. (reply : Reply) × (reply ≡ unread_reply state why) × Says s reply next before after)
     → AnswersNextLine (outcome_of said) state next halt old new after
 answers_refused said why line state next halt old new before after refused takes empty says =
-    elim said as (λ r. IfOk r (λ s. (reply : Reply) × (reply ≡ unread_reply state why) × SaysKept s reply next before after)
+    elim said as (λ r. IfOk r (λ s. (reply : Reply) × (reply ≡ unread_reply state why) × Says s reply next before after)
     → AnswersNextLine (outcome_of r) state next halt old new after) [
-      | Ok one ↦ λ s. (s.0, taken s.0 s.1, subst (λ b. SaysKept one s.0 next b after) empty s.2)
+      | Ok one ↦ λ s. (s.0, taken s.0 s.1, subst (λ b. Says one s.0 next b after) empty s.2)
       | Err error ↦ λ s. (unread_reply state why, taken (unread_reply state why) refl)
     ] says
   where
@@ -85,13 +85,13 @@ is_refusal (Some why) P is = refl
 
 -- a reply that was said is served once it is written
 pub Says-serves : (said : Said) (old new : Stand) (reply : Reply) (buffer : List ℕ)
-    → TakesReplied reply old.state new.stop old.ahead new.ahead → SaysKept said reply new.state [] buffer
+    → TakesReplied reply old.state new.stop old.ahead new.ahead → Says said reply new.state [] buffer
     → Writes reply.text old.out new.out → Serves (Ok said) old new
 Says-serves Answered old new reply buffer taken says writes = record {
   reply = reply;
   taken = taken;
   writes = writes;
-  keeps = says.keeps;
+  state_after = says.state_after;
   refuses = ap is_some says.is_said.0;
   quitting = says.is_said.1;
 }
@@ -99,7 +99,7 @@ Says-serves (Refused number) old new reply buffer taken says writes = record {
   reply = reply;
   taken = taken;
   writes = writes;
-  keeps = says.keeps;
+  state_after = says.state_after;
   refuses = is_refusal reply.refused (λ why. number ≡ refusal_number why) says.is_said.0;
   quitting = says.is_said.1;
 }
@@ -107,7 +107,7 @@ Says-serves Quit old new reply buffer taken says writes = record {
   reply = reply;
   taken = taken;
   writes = writes;
-  keeps = says.keeps;
+  state_after = says.state_after;
   refuses = ap is_some says.is_said.0;
   quitting = says.is_said.1;
 }

@@ -11,7 +11,7 @@ use Rattle.std.proofs.lemmas.Grind.{flat_map-append}
 use Rattle.std.proofs.Math.Bool.{or-false}
 use Rattle.std.specs.Io.KnownBytes.{prepend_known, IsAtEnd}
 use Rattle.std.proofs.lemmas.Option.{IfSome_then}
-use Rattle.cox_outside.specs.declared.limits.TheConstants.{INPUT_LIMIT, CHUNK_SIZE}
+use Rattle.cox_outside.specs.declared.limits.TheConstants.{INPUT_LIMIT}
 use Rattle.cox_outside.specs.Line.{line_feed, ended_lines, lines_within}
 use Rattle.cox_outside.specs.Supply.{Supply}
 use Rattle.cox_outside.specs.Reader.{Reader, fresh_reader}
@@ -27,14 +27,12 @@ use Rattle.cox_shell.specs.Blocks.{IsListReply}
 use Rattle.cox_replies.specs.SessionLimits.{limits_of}
 use Rattle.cox_shell.specs.Answer.{AreReplies, AreAllReplies, AreScriptReplies, IsClosing, state_behind, has_refusal, has_quit}
 use Rattle.cox_shell.specs.Answer.{script_lines, bytes_of}
-use Rattle.cox_shell.specs.Keeping.{KeepsState}
 use Rattle.cox_shell.specs.Run.{Stand, stand}
 use Rattle.cox_shell.specs.Outcome.{Runs, WritesPrefix, WritesAll, StopsThere, IsCutShort, AnswersAll, AnswersEnded}
 use Rattle.cox_shell.specs.Outcome.{EndsReading}
 use Rattle.cox_shell.specs.Closing.{HasClosed}
 use Rattle.cox_shell.specs.Top.{given_limits, StopsReading, IsReadWhole, AnswersWhole, AnswersGiven, AreDue, AreDueAtEnd}
 use Rattle.cox_shell.specs.GivenLimits.{GiveLimits}
-use Rattle.cox_shell.proofs.KeptStates.{some-kept, closing-kept}
 use Rattle.cox_shell.proofs.ListReplies.{IsListReply-closed}
 use Rattle.cox_shell.proofs.KnownValues.{IfSome-unmade}
 
@@ -146,13 +144,13 @@ module _ (limits : Limits) (script : Option (List ℕ)) (old : Outlet) (state : 
 
   -- replies to lines, and to the end of reading
   abbrev all_replies : (lines : List (List ℕ)) (replies closing : List Reply) → AreReplies (opening limits) lines replies
-      → KeepsState state (state_behind (opening limits) replies) → IsClosing state closing
+      → state ≡ state_behind (opening limits) replies → IsClosing state closing
       → AreAllReplies (opening limits) lines (replies ++ closing)
   all_replies lines replies closing are behind closes = record {
     replies = replies;
     are_replies = are;
     closing = closing;
-    closes = closing-kept state (state_behind (opening limits) replies) behind closing closes;
+    closes = subst (λ (s : State). IsClosing s closing) behind closes;
     all_are = refl;
   }
 
@@ -178,7 +176,7 @@ module _ (limits : Limits) (script : Option (List ℕ)) (old : Outlet) (state : 
           | inr whole ↦ inr (IsAtEnd-left reader.feed.pending supply.left whole.0, whole.1)
         ];
     are_replies = all_replies h.lines h.replies closing h.are_replies h.behind closes;
-    some = some-kept state (state_behind (opening limits) h.replies) h.behind some;
+    list_open = subst (λ (s : State). IsSome s.list) h.behind some;
   }
 
   -- at a read fault, and at the limit, reading has ended

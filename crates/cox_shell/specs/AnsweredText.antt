@@ -8,7 +8,7 @@ use Rattle.cox_shell.specs.declared.session.Said.{Said}
 use Rattle.cox_shell.specs.declared.session.Said.TheVariants.{Answered, Refused, Quit}
 use Rattle.cox_shell.specs.Reply.{Kept, State, Reply, closed, texts}
 use Rattle.cox_shell.specs.OpenLists.{kept_lines}
-use Rattle.cox_shell.specs.Blocks.{IsKeptReply, AreKeptReplies}
+use Rattle.cox_shell.specs.Blocks.{IsBlockLineReply, AreBlockLineReplies}
 
 -- the texts, and the number
 pub record Numbered : Type 0 where
@@ -50,11 +50,11 @@ said_by (Some number) = Refused number
 -- what a line of a block, a block, or several are answered, behind what was answered before
 abbrev pub AnswersLine : State → Kept → Numbered → Numbered → Type 0
 AnswersLine state line before after =
-    (reply : Reply) × IsKeptReply state line reply × (after ≡ then_numbered before (numbered_by reply))
+    (reply : Reply) × IsBlockLineReply state line reply × (after ≡ then_numbered before (numbered_by reply))
 
 abbrev pub AnswersBlock : State → List Kept → Numbered → Numbered → Type 0
 AnswersBlock state lines before after =
-    (replies : List Reply) × AreKeptReplies state lines replies × (after ≡ then_numbered before (numbered replies))
+    (replies : List Reply) × AreBlockLineReplies state lines replies × (after ≡ then_numbered before (numbered replies))
 
 abbrev pub AnswersBlocks : State → List (List Kept) → Numbered → Numbered → Type 0
 AnswersBlocks state blocks before after = AnswersBlock state (kept_lines blocks) before after

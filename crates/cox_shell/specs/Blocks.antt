@@ -11,15 +11,15 @@ use Rattle.cox_shell.specs.OpenLists.{kept_lines, is_long}
 
 -- The reply to a line that is kept: it is refused if its bytes are, or if it may not stand in a block; else it is answered as outside. No
 -- such line changes the state.
-abbrev pub IsKeptReply : State → Kept → Reply → Type 0
-IsKeptReply state line reply = MatchOption (option_or line.refused (block_refusal (tokens_of line.content)))
+abbrev pub IsBlockLineReply : State → Kept → Reply → Type 0
+IsBlockLineReply state line reply = MatchOption (option_or line.refused (block_refusal (tokens_of line.content)))
     (IsContentReply state line.content reply) (λ why. reply ≡ refusal state why)
 
 -- these are the replies to lines that are kept, in their order, each as it is given in this state
-abbrev pub AreKeptReplies : State → List Kept → List Reply → Type 0
-AreKeptReplies state [] replies = replies ≡ []
-AreKeptReplies state (line ∷ lines) [] = ⊥
-AreKeptReplies state (line ∷ lines) (reply ∷ replies) = IsKeptReply state line reply × AreKeptReplies state lines replies
+abbrev pub AreBlockLineReplies : State → List Kept → List Reply → Type 0
+AreBlockLineReplies state [] replies = replies ≡ []
+AreBlockLineReplies state (line ∷ lines) [] = ⊥
+AreBlockLineReplies state (line ∷ lines) (reply ∷ replies) = IsBlockLineReply state line reply × AreBlockLineReplies state lines replies
 
 -- the reply that writes what these write, refused as the first of them that is refused
 abbrev pub list_answered : State → List Reply → Reply
@@ -30,7 +30,7 @@ list_answered state replies =
 -- then.
 abbrev pub IsListReply : State → OpenList → Reply → Type 0
 IsListReply state list reply = MatchBool (is_long list) (reply ≡ refusal (closed state) LongList) ((replies : List Reply)
-    × AreKeptReplies (closed state) (kept_lines list) replies × (reply ≡ list_answered (closed state) replies))
+    × AreBlockLineReplies (closed state) (kept_lines list) replies × (reply ≡ list_answered (closed state) replies))
 
 -- the reply to the end of the list that is open
 abbrev pub IsEndOfList : State → Reply → Type 0

@@ -19,7 +19,7 @@ pub record HasClosed (refused : Bool) (state : State) (old new : Outlet) : Type 
 
 -- a list was open, and a prefix of its reply was written
 pub record IsClosingCut (state : State) (old new : Outlet) : Type 0 where
-  pub some : IsSome state.list
+  pub list_open : IsSome state.list
   pub closing : List Reply
   pub closes : IsClosing state closing
   pub prefix : List ℕ

@@ -26,7 +26,7 @@ pub mod BlockScripts
 pub mod Answer
 -- the text that answers a script
 pub mod ScriptAnswer
--- the state where a line is kept
+-- what a session keeps of the list that is open
 pub mod Keeping
 -- what the lines of blocks are answered
 pub mod AnsweredText

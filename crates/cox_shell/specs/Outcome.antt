@@ -9,7 +9,6 @@ use Rattle.cox_shell.specs.declared.status.Status.{Status}
 use Rattle.cox_shell.specs.declared.status.Status.TheVariants.{Done, Refused, Usage, ReadFault, WriteFault, NoMemory, InputLimit}
 use Rattle.cox_shell.specs.Reply.{Reply, texts}
 use Rattle.cox_shell.specs.Answer.{AreReplies, state_behind, has_refusal, has_quit, bytes_of}
-use Rattle.cox_shell.specs.Keeping.{KeepsState}
 use Rattle.cox_shell.specs.Run.{Stand}
 
 -- bytes were taken, and with those that were read and not handed out these are the first of their lines
@@ -34,7 +33,7 @@ pub record WritesPrefix (old new : Stand) : Type 0 where
 pub record WritesAll (old new : Stand) : Type 0 where
   pub replies : List Reply
   pub are_replies : IfSome (lines_ahead old.ahead) (λ lines. AreReplies old.state lines replies)
-  pub behind : KeepsState new.state (state_behind old.state replies)
+  pub behind : new.state ≡ state_behind old.state replies
   pub writes : Writes (texts replies) old.out new.out
 
 -- no more bytes were taken than the lines with these replies have, and fewer than a chunk were read beyond them
@@ -65,7 +64,7 @@ pub record EndsReading (failed : Bool) (old new : Stand) : Type 0 where
       ⊎ (IsAtEnd new.ahead.bytes × (lines ≡ lines_within old.ahead.budget given))
   pub replies : List Reply
   pub are_replies : AreReplies old.state lines replies
-  pub behind : KeepsState new.state (state_behind old.state replies)
+  pub behind : new.state ≡ state_behind old.state replies
   pub writes : Writes (texts replies) old.out new.out
 
 -- the lines were answered to their end, with a refusal or without; where a line ended the run no list is open
@@ -83,7 +82,7 @@ pub record AnswersEnded (given : List ℕ) (old new : Stand) : Type 0 where
   pub none_pending : new.ahead.pending ≡ []
   pub replies : List Reply
   pub are_replies : AreReplies old.state (ended_lines given) replies
-  pub behind : KeepsState new.state (state_behind old.state replies)
+  pub behind : new.state ≡ state_behind old.state replies
   pub none_quits : has_quit replies ≡ false
   pub writes : Writes (texts replies) old.out new.out
 

@@ -9,7 +9,7 @@ use Rattle.cox_shell.specs.declared.status.Status.TheVariants.{WriteFault, NoMem
 use Rattle.cox_shell.specs.Reply.{Reply}
 use Rattle.cox_shell.specs.Top.{given_limits, StopsReading, AreDue, AreDueAtEnd}
 
--- a run with these arguments, which ended by this status, read so far that of this source that is left
+-- how far a run with these arguments that ended by this status has read: of `source`, `left` is left
 pub record IsReadBy (status : Status) (arguments : List (List ℕ)) (source left : Supply) : Type 0 where
   -- Where a write failed or memory ran out, less than a chunk was read beyond lines whose replies are due, of which one that ends the run
   -- is the last; or reading had ended inside a list, by a failed read, which is told, or otherwise.

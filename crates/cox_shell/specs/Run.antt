@@ -13,8 +13,7 @@ use Rattle.cox_shell.specs.declared.status.Stopped.{Stopped}
 use Rattle.cox_shell.specs.declared.status.Stopped.TheVariants.{End, ReadFault, WriteFault, NoMemory, InputLimit}
 use Rattle.cox_shell.specs.Reply.{State, Reply}
 use Rattle.cox_shell.specs.LineReply.{IsReply}
-use Rattle.cox_shell.specs.Keeping.{KeepsState}
-use Rattle.cox_shell.specs.Saying.{SaysKept}
+use Rattle.cox_shell.specs.Saying.{Says}
 
 -- the session's state, whether the reader stopped, what lies ahead of it, and what the sink tells
 pub record Stand : Type 0 where
@@ -50,7 +49,7 @@ pub record TakesReplied (reply : Reply) (state : State) (halt : Option Stop) (ol
 -- what answering the next line did: its reply stands in the buffer, or memory ran out for it, or no line was there
 abbrev pub AnswersNextLine : Result Said Stopped → State → State → Option Stop → Ahead → Ahead → List ℕ → Type 0
 AnswersNextLine (Ok said) before after halt old new buffer = (reply : Reply) × TakesReplied reply before halt old new
-    × SaysKept said reply after [] buffer
+    × Says said reply after [] buffer
 AnswersNextLine (Err NoMemory) before after halt old new buffer = (reply : Reply) × TakesReplied reply before halt old new
 AnswersNextLine (Err End) before after halt old new buffer = ReadsNext next.End halt old new × (buffer ≡ []) × (after ≡ before)
 AnswersNextLine (Err ReadFault) before after halt old new buffer = ReadsNext next.Failed halt old new × (buffer ≡ []) × (after ≡ before)
@@ -62,7 +61,7 @@ pub record IsServed (refused quits : Bool) (old new : Stand) : Type 0 where
   pub reply : Reply
   pub taken : TakesReplied reply old.state new.stop old.ahead new.ahead
   pub writes : Writes reply.text old.out new.out
-  pub keeps : KeepsState new.state reply.after
+  pub state_after : new.state ≡ reply.after
   pub refuses : is_some reply.refused ≡ refused
   pub quitting : reply.quits ≡ quits
 

@@ -9,7 +9,6 @@ use Rattle.cox_replies.specs.declared.unanswered.Unanswered.TheVariants as unans
 use Rattle.cox_shell.specs.declared.session.Said.{Said}
 use Rattle.cox_shell.specs.declared.session.Said.TheVariants.{Answered, Refused, Quit}
 use Rattle.cox_shell.specs.Reply.{State, Reply, refusal}
-use Rattle.cox_shell.specs.Keeping.{KeepsState}
 
 -- what is said of a reply: that it is an answer, the number of its refusal, or that it ends the run
 abbrev pub IsSaid : Said → Reply → Type 0
@@ -27,12 +26,6 @@ pub record Says (said : Said) (reply : Reply) (state : State) (before after : Li
   pub is_said : IsSaid said reply
   pub text : after ≡ before ++ reply.text
   pub state_after : state ≡ reply.after
-
--- a reply was given: its text was appended, and the session keeps the state after it
-pub record SaysKept (said : Said) (reply : Reply) (kept : State) (before after : List ℕ) : Type 0 where
-  pub is_said : IsSaid said reply
-  pub text : after ≡ before ++ reply.text
-  pub keeps : KeepsState kept reply.after
 
 -- a reply was broken off: a prefix of its text was appended, and the state is as it was
 pub record SaysPrefix (reply : Reply) (old new : State) (before after : List ℕ) : Type 0 where

@@ -36,7 +36,7 @@ abbrev pub IsReadWhole : List Reply → Option (List ℕ) → Option (List ℕ) 
 IsReadWhole replies script left = MatchBool (has_quit replies)
     (StopsReading replies script left) (IfSome script (λ bytes. length bytes ≤ INPUT_LIMIT) × IsAtEnd left)
 
--- the replies to the script were written, all and nothing else, with a refusal among them or without; and so far it was read
+-- the replies to the script were written, all and nothing else, with a refusal among them or without; and `left` of it is left
 pub record AnswersWhole (refused : Bool) (limits : Limits) (script left : Option (List ℕ)) (old new : Outlet) : Type 0 where
   pub replies : List Reply
   pub are_replies : IfSome script (λ bytes. AreScriptReplies limits bytes replies)
@@ -70,7 +70,7 @@ pub record AreDueAtEnd (lost : Bool) (limits : Limits) (script left : Option (Li
   pub are_read : (((lost ≡ true) ⊎ (INPUT_LIMIT < length given)) × (lines ≡ ended_lines (take INPUT_LIMIT given)))
       ⊎ (IsAtEnd left × (lines ≡ script_lines given))
   pub are_replies : AreAllReplies (opening limits) lines replies
-  pub some : IsSome (state_behind (opening limits) are_replies.replies).list
+  pub list_open : IsSome (state_behind (opening limits) are_replies.replies).list
 
 -- what is due: the replies to lines that were read, and to the end of a list that was open when reading ended; or the usage line for wrong
 -- arguments

@@ -16,7 +16,7 @@ use std::alloc::{AllocError, Global};
 use std::sync::Wait;
 use std::thread::{Threads, join};
 
-/// The answer to the blocks of a list that is not too long, by at most so many threads. `None` if memory ran out in one of them.
+/// The answer to the blocks of a list that is not too long, by at most this many threads. `None` if memory ran out in one of them.
 ///
 /// The thread of each block passes the gate under the number of the block, from 1, before it begins the block.
 pub fn answer_list<R: Threads + Wait + Sync, G: Gate + Sync>(

@@ -11,7 +11,7 @@ use std::alloc::Global;
 
 /// Makes rows that will be asked for, and may answer the blocks of a list at once. No answer depends on it.
 pub trait BlockAnswerer: RowMaker {
-    /// What the blocks of a list are answered in this session, which is not too long. `None` where they are to be answered one after
+    /// What the blocks of a list that is not too long are answered in this session. `None` where they are to be answered one after
     /// another. The session may have made rows.
     fn answer_at_once(
         &self,

@@ -22,7 +22,7 @@ pub enum Closed {
 }
 
 impl Closed {
-    /// What a list that was answered so led to.
+    /// What ending a list led to, by what was said of it.
     fn of(said: Said) -> Closed
         ensures { result ≡ closed_by said }
     {

@@ -51,7 +51,7 @@ ghost use Rattle.cox_replies.specs.GroupReply.{IsGraphText};
 ghost use Rattle.cox_replies.specs.WorkReply.{generated_words, RefusesWork, IsWorkText};
 ghost use Rattle.cox_shell.specs.Reply.{Kept, OpenList, State, Reply, texts};
 ghost use Rattle.cox_shell.specs.OpenLists.{kept_lines};
-ghost use Rattle.cox_shell.specs.Blocks.{AreKeptReplies};
+ghost use Rattle.cox_shell.specs.Blocks.{AreBlockLineReplies};
 ghost use Rattle.cox_shell.specs.Answered.{ReadsAs, IsAnswered};
 ghost use Rattle.cox_shell.specs.Answer.{AreReplies, AreScriptReplies};
 ghost use Rattle.cox_shell.specs.ScriptAnswer.{IsAnswer};
@@ -82,16 +82,17 @@ pub fn one_answer()
 /// In a list each block is answered as it is alone, whatever the other blocks are. So two lists that agree on a block agree on its answer.
 pub fn blocks_are_alone()
     ensures { (state : State) → IfSome state.group IsCoxeterMatrix → (before after : OpenList) → (block : List Kept)
-        → (replies alone : List Reply) → AreKeptReplies state (kept_lines (before ++ block ∷ after)) replies
-        → AreKeptReplies state block alone → (first : List Reply) × (last : List Reply) × AreKeptReplies state (kept_lines before) first
-        × AreKeptReplies state (kept_lines after) last × (replies ≡ first ++ (alone ++ last)) }
+        → (replies alone : List Reply) → AreBlockLineReplies state (kept_lines (before ++ block ∷ after)) replies
+        → AreBlockLineReplies state block alone → (first : List Reply) × (last : List Reply)
+        × AreBlockLineReplies state (kept_lines before) first
+        × AreBlockLineReplies state (kept_lines after) last × (replies ≡ first ++ (alone ++ last)) }
 {}
 
 /// Lines that may stand in a block are answered there as they are as a script, where no list is open. `CanStand` says which may: neither
 /// their bytes nor their place refuses them, and they are no lines of a list.
 pub fn block_is_a_script()
     ensures { (state : State) → state.list ≡ None → (lines : List (List ℕ)) → All CanStand lines → (replies : List Reply)
-        → AreKeptReplies state (map kept_of lines) replies → AreReplies state lines replies }
+        → AreBlockLineReplies state (map kept_of lines) replies → AreReplies state lines replies }
 {}
 
 /// What is due of a script before reading has ended, wherever it stands, is a prefix of its answer.

@@ -1,10 +1,10 @@
 //! The shell: the answer to a script, from the bytes of a source to the bytes of a sink.
 //!
 //! [`run`] and [`run_one`] read lines, answer each before they ask for the next, and end by a [`Status`]. Their
-//! contract, `IsRun` in `specs/WholeRun.antt`, says, by the replies to the lines that the definitions give, what was
-//! written at each status, and what each status but that of memory that ran out came from. `run` has as many workers as the
-//! arguments say where rows are made, and where a list of blocks is answered.
-//! `run_one` has one thread, and is proved to return. A [`Session`] answers single lines.
+//! contract, `IsRun` in `specs/WholeRun.antt`, says what was written at each status, by the replies that the definitions
+//! give to the lines, and for each status but `NoMemory` what led to it. `run` has as many workers as the arguments say
+//! where rows are made, and where a list of blocks is answered. `run_one` has one thread, and is proved to return. A
+//! [`Session`] answers single lines.
 //!
 //! It stands on `cox_outside` for lines and bytes, on `cox_command` and `cox_print` for commands and texts, on `cox_options` for the
 //! arguments, on `cox_answers` for what is asked of a group, and on `cox_workers` for rows that several threads make.

@@ -4,6 +4,7 @@ use crate::limits::{MAX_BLOCKS, MAX_LINES};
 use cox_command::Refusal;
 use std::alloc::{AllocError, Global};
 use std::marker::Model;
+use std::snapshot::Snapshot;
 
 /// A line that is kept in a list: its content, or why its bytes are refused; and what it gives, if it was read.
 #[derive(Drop)]
@@ -77,7 +78,7 @@ impl KeptLine {
         self.content.as_slice()
     }
 
-    /// What it gives where the group that is set, if any, has this rank; `None` where it was not read so.
+    /// What it gives where the group that is set, if any, has this rank; `None` where it was not read for this rank.
     pub(crate) fn gives(&self, rank: Option<u32>) -> Option<&BlockLine>
         ensures { IfSome result (λ gives. Gives gives.now self.now.content rank) }
     {
@@ -139,84 +140,152 @@ impl Block {
     }
 }
 
-/// What is kept of a list of blocks that is open. Contracts see the lines of each block. It takes no more once it is too long, so it has at
-/// most one block and one line more than a list may have.
+/// Blocks of a list, one behind the other. Contracts see the lines of each.
 #[derive(Drop)]
-pub struct JobList {
+struct Blocks {
     blocks: Vec<Block>,
 }
 
-impl Model for JobList {
-    ghost use Rattle.std.specs.Prelude.{◌<◌, length};
+impl Model for Blocks {
     ghost use Rattle.cox_shell.specs.Reply.{OpenList};
-    ghost use Rattle.cox_shell.specs.Keeping.{IsBounded};
 
     ghost Value = { OpenList };
 
     ghost view = { λ list. list.blocks.items };
-
-    ghost invariant = { λ list. (0 < length list.blocks.items) × IsBounded list.blocks.items };
 }
 
-impl JobList {
-    ghost use Rattle.std.specs.Prelude.{◌≡◌, [], ◌∷◌, IfOk, OnOk, OnErr};
-    ghost use Rattle.cox_shell.specs.Keeping.{with_line, with_block, IsBounded};
+impl Blocks {
+    ghost use Rattle.std.specs.Prelude.{◌≡◌, ◌<◌, [], ◌∷◌, length, IfOk, OnOk, OnErr};
+    ghost use Rattle.cox_shell.specs.OpenLists.{then_line, then_block};
 
-    /// A list of one empty block.
-    pub fn new(alloc: Global) -> Result<JobList, AllocError>
+    /// One empty block.
+    fn one(alloc: Global) -> Result<Blocks, AllocError>
         ensures { IfOk result (λ list. list ≡ [] ∷ []) }
     {
         let mut blocks = Vec::new(alloc);
         blocks.push(Block::new(alloc))?;
-        Ok(JobList { blocks })
+        Ok(Blocks { blocks })
     }
 
-    /// Adds a line to the last block, unless the list is too long. Without memory nothing changes.
-    pub fn add(&mut self, line: KeptLine) -> Result<(), AllocError>
-        ensures ok { OnOk result (self.new ≡ with_line self.old line) }
+    /// Adds a line to the last block. Without memory nothing changes.
+    fn add(&mut self, line: KeptLine) -> Result<(), AllocError>
+        requires { 0 < length self.old }
+        ensures ok { OnOk result (self.new ≡ then_line self.old line) }
         ensures err { OnErr result (self.new ≡ self.old) }
     {
-        if is_long(self.blocks()) {
-            return Ok(());
-        }
-        add_to_last(&mut self.blocks, line)
+        let last = self.blocks.len() - 1;
+        self.blocks[last].push(line)?;
+        Ok(())
     }
 
-    /// Adds an empty block, unless the list is too long. Without memory nothing changes.
-    pub fn begin_block(&mut self) -> Result<(), AllocError>
-        ensures ok { OnOk result (self.new ≡ with_block self.old) }
+    /// Adds an empty block. Without memory nothing changes.
+    fn begin_block(&mut self) -> Result<(), AllocError>
+        ensures ok { OnOk result (self.new ≡ then_block self.old) }
         ensures err { OnErr result (self.new ≡ self.old) }
     {
-        if is_long(self.blocks()) {
-            return Ok(());
-        }
         let alloc = *self.blocks.allocator();
         self.blocks.push(Block::new(alloc))?;
         Ok(())
     }
 
-    /// Its blocks.
-    pub fn blocks(&self) -> &[Block]
-        ensures blocks { result.now ≡ self.now }
-        ensures bounded { IsBounded result.now }
+    /// The blocks.
+    fn as_slice(&self) -> &[Block]
+        ensures { result.now ≡ self.now }
     {
         self.blocks.as_slice()
     }
 }
 
-ghost use Rattle.std.specs.Prelude.{◌≡◌, ◌<◌, length, OnOk, OnErr};
-ghost use Rattle.cox_shell.specs.OpenLists.{then_line, is_long};
+/// A list of blocks that is open. Contracts see the lines of each block, and all of them. Once the list is too long no more is kept of it,
+/// so it takes the memory of at most one block and one line more than a list may have.
+#[derive(Drop)]
+pub struct JobList {
+    kept: Blocks,
+    /// The whole list, for contracts alone: it has no bytes.
+    whole: Snapshot<Blocks>,
+}
 
-/// Adds a line to the last of some blocks. Without memory nothing changes.
-fn add_to_last(blocks: &mut Vec<Block>, line: KeptLine) -> Result<(), AllocError>
-    requires { 0 < length blocks.old.items }
-    ensures ok { OnOk result (blocks.new.items ≡ then_line blocks.old.items line) }
-    ensures err { OnErr result (blocks.new.items ≡ blocks.old.items) }
-    ensures count { length blocks.new.items ≡ length blocks.old.items }
+impl Model for JobList {
+    ghost use Rattle.std.specs.Prelude.{◌<◌, length};
+    ghost use Rattle.cox_shell.specs.Reply.{OpenList};
+    ghost use Rattle.cox_shell.specs.Keeping.{IsKeptOf, IsBounded};
+
+    ghost Value = { OpenList };
+
+    ghost view = { λ list. list.whole.value };
+
+    ghost invariant = { λ list. (0 < length list.kept) × IsBounded list.kept × IsKeptOf list.kept list.whole.value };
+}
+
+impl JobList {
+    ghost use Rattle.std.specs.Prelude.{◌≡◌, [], ◌∷◌, IfOk, OnOk, OnErr};
+    ghost use Rattle.cox_shell.specs.OpenLists.{then_line, then_block};
+    ghost use Rattle.cox_shell.specs.Keeping.{IsKeptOf, IsBounded};
+
+    /// A list of one empty block.
+    pub fn new(alloc: Global) -> Result<JobList, AllocError>
+        ensures { IfOk result (λ list. list ≡ [] ∷ []) }
+    {
+        let kept = Blocks::one(alloc)?;
+        let whole = Snapshot::of(&kept);
+        Ok(JobList { kept, whole })
+    }
+
+    /// Adds a line to the last block. Without memory nothing changes.
+    pub fn add(&mut self, line: KeptLine) -> Result<(), AllocError>
+        ensures ok { OnOk result (self.new ≡ then_line self.old line) }
+        ensures err { OnErr result (self.new ≡ self.old) }
+    {
+        let whole = whole_with_line(Snapshot::of(&self.kept), &self.whole, &line);
+        if !is_long(self.kept.as_slice()) {
+            self.kept.add(line)?;
+        }
+        self.whole = whole;
+        Ok(())
+    }
+
+    /// Adds an empty block. Without memory nothing changes.
+    pub fn begin_block(&mut self) -> Result<(), AllocError>
+        ensures ok { OnOk result (self.new ≡ then_block self.old) }
+        ensures err { OnErr result (self.new ≡ self.old) }
+    {
+        let whole = whole_with_block(Snapshot::of(&self.kept), &self.whole);
+        if !is_long(self.kept.as_slice()) {
+            self.kept.begin_block()?;
+        }
+        self.whole = whole;
+        Ok(())
+    }
+
+    /// The blocks that are kept: all, or, of a list that is too long, no more than make it so.
+    pub fn blocks(&self) -> &[Block]
+        ensures kept { IsKeptOf result.now self.now }
+        ensures bounded { IsBounded result.now }
+    {
+        self.kept.as_slice()
+    }
+}
+
+ghost use Rattle.std.specs.Prelude.{◌≡◌};
+ghost use Rattle.cox_shell.specs.OpenLists.{then_line, then_block, is_long};
+
+/// The whole list with one more line. A snapshot is a value for contracts alone, which no code reads: any is handed on, and the proof says
+/// what contracts see of it.
+fn whole_with_line(
+    any: Snapshot<Blocks>,
+    whole: &Snapshot<Blocks>,
+    line: &KeptLine,
+) -> Snapshot<Blocks>
+    ensures { result.value ≡ then_line whole.now.value line.now }
 {
-    let last = blocks.len() - 1;
-    blocks[last].push(line)?;
-    Ok(())
+    any
+}
+
+/// The whole list with one more block, in the same way.
+fn whole_with_block(any: Snapshot<Blocks>, whole: &Snapshot<Blocks>) -> Snapshot<Blocks>
+    ensures { result.value ≡ then_block whole.now.value }
+{
+    any
 }
 
 /// Whether there are too many blocks, or too many lines in all.

@@ -72,8 +72,8 @@ pub enum Stage {
 /// `answer_given` for each line, and `end_list` where reading ends inside a list. The other public
 /// calls that answer are for callers that have lines of their own.
 ///
-/// Contracts see the limits that its options give, the Coxeter matrix of the group that is set, and what is kept of the list of blocks that
-/// is open (`KeepsState`): the whole list, or, of a list that is too long, no more than makes it so.
+/// Contracts see the limits that its options give, the Coxeter matrix of the group that is set, and the list of blocks that is open. Of a
+/// list that is too long the session keeps no more than makes it so.
 #[derive(Drop)]
 pub struct Session {
     stage: Stage,
@@ -93,7 +93,7 @@ impl Session {
     ghost use Rattle.std.specs.Thread.{IsSync};
     ghost use Rattle.cox_row.specs.Rising.{AreWithin};
     ghost use Rattle.cox_answers.specs.Kept.{IsMore};
-    ghost use Rattle.std.specs.Prelude.{◌≡◌, ◌<◌, ◌≤◌, ◌⊎◌, ◌^◌, false, length, None, Some, is_some, IfOk, OnErr};
+    ghost use Rattle.std.specs.Prelude.{◌≡◌, ◌<◌, ◌≤◌, ◌⊎◌, ◌^◌, false, length, None, is_some, IsSomeAnd, IfOk, OnErr};
     ghost use Rattle.std.specs.Prelude.{IfSome, MatchOption};
     ghost use Rattle.cox_base.specs.Admissible.{IsCoxeterMatrix};
     ghost use Rattle.cox_shell.specs.Reply.{Reply, opening, closed, rank_of};
@@ -103,8 +103,8 @@ impl Session {
     ghost use Rattle.cox_shell.specs.Blocks.{IsListReply};
     ghost use Rattle.cox_shell.specs.AnsweredText.{AnswersList};
     ghost use Rattle.cox_shell.specs.GivenReply.{IsShort, IsGivenReply, IsBadReply};
-    ghost use Rattle.cox_shell.specs.Keeping.{IsBounded};
-    ghost use Rattle.cox_shell.specs.Saying.{SaysKept, SaysPrefix, SaysText};
+    ghost use Rattle.cox_shell.specs.Keeping.{IsKeptOf, IsBounded};
+    ghost use Rattle.cox_shell.specs.Saying.{Says, SaysPrefix, SaysText};
     ghost use Rattle.cox_poly.specs.Puts.{PutsPrefix};
 
     /// A session with these options, and no group.
@@ -124,7 +124,7 @@ impl Session {
     pub fn answer(&mut self, line: &[u8], out: &mut Vec<u8>) -> Result<Said, AllocError>
         requires size { length line.now < 2 ^ 32 }
         ensures ok { IfOk result (λ said. (reply : Reply) × IsReplyTo self.old line.now reply
-            × SaysKept said reply self.new out.old.items out.new.items) }
+            × Says said reply self.new out.old.items out.new.items) }
         ensures err { OnErr result ((reply : Reply) × IsReplyTo self.old line.now reply
             × SaysPrefix reply self.old self.new out.old.items out.new.items) }
     {
@@ -142,7 +142,7 @@ impl Session {
     ) -> Result<Said, AllocError>
         requires size { length line.now < 2 ^ 32 }
         ensures ok { IfOk result (λ said. (reply : Reply) × IsReplyTo self.old line.now reply
-            × SaysKept said reply self.new out.old.items out.new.items) }
+            × Says said reply self.new out.old.items out.new.items) }
         ensures err { OnErr result ((reply : Reply) × IsReplyTo self.old line.now reply
             × SaysPrefix reply self.old self.new out.old.items out.new.items) }
     {
@@ -166,12 +166,12 @@ impl Session {
     }
 
     /// Takes a line whose bytes are refused: `n` is 18 where the line is too long, 19 where it has a byte that no line may have. While a
-    /// list is open it is kept as one that is so refused, else it is answered `error n`. On `NoMemory` the session is as before, and a
-    /// prefix of the answer is appended.
+    /// list is open the line is kept, as one that is refused by `n`; else it is answered `error n`. On `NoMemory` the session is as before,
+    /// and a prefix of the answer is appended.
     pub fn bad(&mut self, n: u8, out: &mut Vec<u8>) -> Result<Said, AllocError>
         requires { (n ≡ 18) ⊎ (n ≡ 19) }
         ensures ok { IfOk result (λ said. (reply : Reply) × IsBadReply self.old n reply
-            × SaysKept said reply self.new out.old.items out.new.items) }
+            × Says said reply self.new out.old.items out.new.items) }
         ensures err { OnErr result ((reply : Reply) × IsBadReply self.old n reply
             × SaysPrefix reply self.old self.new out.old.items out.new.items) }
     {
@@ -184,7 +184,7 @@ impl Session {
     /// The blocks that are kept of the list that is open: all its blocks, or, of a list that is too long, no more than make it so. The
     /// lines and blocks behind those are shown nowhere. `None` exactly where none is open.
     pub fn blocks(&self) -> Option<&[Block]>
-        ensures kept { MatchOption result (self.now.list ≡ None) (λ blocks. self.now.list ≡ Some blocks.now) }
+        ensures kept { MatchOption result (self.now.list ≡ None) (λ blocks. IsSomeAnd self.now.list (λ list. IsKeptOf blocks.now list)) }
         ensures bounded { IfSome result (λ blocks. IsBounded blocks.now) }
     {
         match &self.list {
@@ -252,7 +252,7 @@ impl Session {
         requires size { IsShort given }
         requires ready { M.ready maker.now }
         ensures ok { IfOk result (λ said. (reply : Reply) × IsGivenReply self.old given.entry reply
-            × SaysKept said reply self.new out.old.items out.new.items) }
+            × Says said reply self.new out.old.items out.new.items) }
         ensures err { OnErr result ((reply : Reply) × IsGivenReply self.old given.entry reply
             × SaysPrefix reply self.old self.new out.old.items out.new.items) }
     {
@@ -279,7 +279,7 @@ impl Session {
         requires size { length line.now < 2 ^ 32 }
         requires ready { M.ready maker.now }
         ensures ok { IfOk result (λ said. (reply : Reply) × IsReplyTo self.old line.now reply
-            × SaysKept said reply self.new out.old.items out.new.items) }
+            × Says said reply self.new out.old.items out.new.items) }
         ensures err { OnErr result ((reply : Reply) × IsReplyTo self.old line.now reply
             × SaysPrefix reply self.old self.new out.old.items out.new.items) }
     {

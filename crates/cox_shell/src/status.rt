@@ -49,7 +49,7 @@ pub enum Stopped {
 }
 
 impl Stopped {
-    /// How a run ends that stopped so, if a line was refused before or none.
+    /// The status of a run that stopped for this reason, by whether a line was refused before.
     pub fn status(self, refused: bool) -> Status
         ensures { result ≡ status_of self refused }
     {

@@ -155,8 +155,9 @@ fn are_many(rows: &Rows, wanted: &[u32]) -> bool {
     missing.count() >= MANY_ROWS
 }
 
-/// The same rows, and those of the members with these numbers, by so many workers, as far as there is memory for them and none is beyond a
-/// limit. Each worker passes the gate before each claim and each publication. A single row whose needs are there is left to whoever asked.
+/// The same rows, and those of the members with these numbers, by this many workers, as far as there is memory for them and none is beyond
+/// a limit. Each worker passes the gate before each claim and each publication. A single row whose needs are there is left to whoever
+/// asked.
 pub fn make_rows<R: Threads + Wait + Sync, G: Gate + Sync>(
     rt: &R,
     gate: &G,

@@ -13,7 +13,7 @@ impl Session {
     ghost use Rattle.std.specs.Prelude.{◌≡◌, false, None, IfOk, OnErr, OnOk};
     ghost use Rattle.cox_shell.specs.Reply.{Reply, rank_of};
     ghost use Rattle.cox_shell.specs.OpenLists.{is_long};
-    ghost use Rattle.cox_shell.specs.Blocks.{IsKeptReply, IsListReply};
+    ghost use Rattle.cox_shell.specs.Blocks.{IsBlockLineReply, IsListReply};
     ghost use Rattle.cox_shell.specs.BlockReading.{HasBlockWords, IsBlockReply};
     ghost use Rattle.cox_shell.specs.AnsweredText.{AnswersBlock, AnswersBlocks, AnswersLine, AnswersList};
     ghost use Rattle.cox_shell.specs.Saying.{SaysText};
@@ -138,7 +138,7 @@ impl Session {
     ) -> Result<Said, AllocError>
         requires ready { M.ready maker.now }
         ensures same { self.new ≡ self.old }
-        ensures ok { IfOk result (λ said. (reply : Reply) × IsKeptReply self.old line.now reply
+        ensures ok { IfOk result (λ said. (reply : Reply) × IsBlockLineReply self.old line.now reply
             × SaysText said reply out.old.items out.new.items) }
     {
         if let Some(why) = line.refusal() {

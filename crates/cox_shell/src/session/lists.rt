@@ -15,8 +15,8 @@ impl Session {
     ghost use Rattle.cox_shell.specs.ListReply.{IsReplyTo, unread_reply};
     ghost use Rattle.cox_shell.specs.Blocks.{IsEndOfList};
     ghost use Rattle.cox_shell.specs.BlockReading.{Gives};
-    ghost use Rattle.cox_shell.specs.Keeping.{with_kept, with_next};
-    ghost use Rattle.cox_shell.specs.Saying.{Says, SaysKept, SaysPrefix};
+    ghost use Rattle.cox_shell.specs.Keeping.{with_line, with_block};
+    ghost use Rattle.cox_shell.specs.Saying.{Says, SaysPrefix};
 
     /// Ends the list that is open, and answers it. On `NoMemory` the session is as before, and a prefix of the answer is appended.
     pub(crate) fn end_list<M: BlockAnswerer>(
@@ -54,7 +54,7 @@ impl Session {
         requires open_list { IsSome self.old.list }
         requires ready { M.ready maker.now }
         ensures ok { IfOk result (λ said. (reply : Reply) × IsReplyTo self.old line.now reply
-            × SaysKept said reply self.new out.old.items out.new.items) }
+            × Says said reply self.new out.old.items out.new.items) }
         ensures err { OnErr result ((reply : Reply) × IsReplyTo self.old line.now reply
             × SaysPrefix reply self.old self.new out.old.items out.new.items) }
     {
@@ -67,13 +67,13 @@ impl Session {
         }
     }
 
-    /// Takes a line whose bytes are refused so.
+    /// Takes a line whose bytes are refused for this reason.
     pub(super) fn take_unread(
         &mut self,
         why: Refusal,
         out: &mut Vec<u8>,
     ) -> Result<Said, AllocError>
-        ensures ok { IfOk result (λ said. SaysKept said (unread_reply self.old why) self.new out.old.items out.new.items) }
+        ensures ok { IfOk result (λ said. Says said (unread_reply self.old why) self.new out.old.items out.new.items) }
         ensures err { OnErr result (SaysPrefix (unread_reply self.old why) self.old self.new out.old.items out.new.items) }
     {
         if self.has_list() {
@@ -94,7 +94,7 @@ impl Session {
     /// Begins a block in the list that is open. Without memory nothing changes.
     fn begin_block(&mut self) -> Result<Said, AllocError>
         requires { IsSome self.old.list }
-        ensures ok { IfOk result (λ said. (said ≡ Answered) × (self.new ≡ with_next self.old)) }
+        ensures ok { IfOk result (λ said. (said ≡ Answered) × (self.new ≡ with_block self.old)) }
         ensures err { OnErr result (self.new ≡ self.old) }
     {
         let Some(list) = &mut self.list else {
@@ -115,7 +115,7 @@ impl Session {
         requires gives { Gives reading.gives line.now reading.rank }
         requires open_list { IsSome self.old.list }
         ensures ok { IfOk result (λ said. (said ≡ Answered)
-            × (self.new ≡ with_kept self.old (record { content = line.now; refused = None }))) }
+            × (self.new ≡ with_line self.old (record { content = line.now; refused = None }))) }
         ensures err { OnErr result (self.new ≡ self.old) }
     {
         self.keep(KeptLine::read(alloc, line, reading)?)
@@ -124,7 +124,7 @@ impl Session {
     /// Keeps a line in the list that is open. Without memory nothing changes.
     fn keep(&mut self, line: KeptLine) -> Result<Said, AllocError>
         requires { IsSome self.old.list }
-        ensures ok { IfOk result (λ said. (said ≡ Answered) × (self.new ≡ with_kept self.old line)) }
+        ensures ok { IfOk result (λ said. (said ≡ Answered) × (self.new ≡ with_line self.old line)) }
         ensures err { OnErr result (self.new ≡ self.old) }
     {
         let Some(list) = &mut self.list else {

@@ -17,7 +17,7 @@ returns-in-Err-clause-closes g c =
     c.deref.ensures.value ∙ said.2.text ∙ ap (λ l. l ++ reply.text) c.clear.ensures.items ∙ sym (append-nil reply.text) in
     let put = c.in-Err.ensures.err in (
       record {
-        some = search rules;
+        list_open = search rules;
         closing = reply ∷ [];
         closes = closing-of c.args.session.now reply said.1;
         prefix = put.0;
@@ -31,7 +31,7 @@ pub returns-in_default-clause-closes : goal.returns-in_default-clause-closes
 returns-in_default-clause-closes g c =
     let cut = err_of _ _ c.in_default.not-Ok c.end_list.ensures.err in
     record {
-      some = search rules;
+      list_open = search rules;
       closing = cut.0 ∷ [];
       closes = closing-of c.args.session.now cut.0 cut.1;
       prefix = [];

@@ -1,12 +1,19 @@
--- A list that is not too long takes one more line.
-use Rattle.std.proofs.Common.{◌≡◌, false, sym, ap, ◌∙◌}
+-- A list that is not too long takes one more line; of one that is too long no more is kept.
+use Rattle.std.proofs.Common.{◌≡◌, sym, ap, ◌∙◌}
 use Rattle.cox_shell.specs.OpenLists.{is_long}
-use Rattle.cox_shell.proofs.KeptLists.{bounded-added}
+use Rattle.cox_shell.proofs.KeptLists.{line-taken, line-left}
 use Rattle.cox_shell.proofs.list.JobList.add.Goals as goal
+use Rattle.cox_shell.proofs.list.JobList.add.Goals.{then-not-is_long+in_ok-add, else-not-is_long}
 
-pub invariant_of-self : goal.invariant_of-self
-invariant_of-self c =
-    let short : is_long c.self.inside.blocks.items ≡ false =
-    ap is_long (c.self.view_is ∙ sym c.blocks-2.ensures.blocks) ∙ sym c.is_long.ensures ∙ c.if-is_long.false in
-    bounded-added c.add_to_last.result c.self.inside.blocks.items _ _ c.self.invariant.0 c.self.invariant.1 short
-    c.add_to_last.ensures.ok c.add_to_last.ensures.err
+pub invariant_of-self-2 : goal.invariant_of-self-2
+invariant_of-self-2 c =
+    let kept = c.self.inside.kept in
+    let list = c.self.inside.whole.value in
+    let test : is_long kept ≡ c.is_long.result = ap is_long (sym c.as_slice.ensures) ∙ sym c.is_long.ensures in
+    elim c.if-not-is_long.branch [
+      | then-not-is_long+in_ok-add w ↦ rw (ap (λ s. s.kept) w.self-inside-is, c.whole_with_line-whole.ensures)
+          (line-taken kept list w.add.new.self c.args.line c.self.invariant (test ∙ w.if-not-is_long.true)
+          (w.in_ok-add.ensures {u = tt}).ok)
+      | else-not-is_long w ↦ rw (ap (λ s. s.kept) w.self-inside-is, c.whole_with_line-whole.ensures)
+          (line-left kept list c.args.line c.self.invariant (test ∙ w.if-not-is_long.false))
+    ]

@@ -5,9 +5,9 @@ use Rattle.cox_command.specs.declared.blocks.ListWord.TheVariants.{Next, End}
 use Rattle.cox_command.specs.BlockLines.{list_word_of}
 use Rattle.cox_shell.specs.Blocks.{IsEndOfList}
 use Rattle.cox_shell.specs.ListReply.{IsReplyTo}
-use Rattle.cox_shell.specs.Keeping.{with_kept, with_next}
+use Rattle.cox_shell.specs.Keeping.{with_line, with_block}
 use Rattle.cox_shell.proofs.OpenListReplies.{next_reply, end_reply, keep_reply}
-use Rattle.cox_shell.proofs.SaidReplies.{silent-says, silent-breaks, Says-kept, SaysPrefix-follows}
+use Rattle.cox_shell.proofs.SaidReplies.{silent-says, silent-breaks, Says-follows, SaysPrefix-follows}
 use Rattle.cox_shell.proofs.session.Session.answer_in_list.Goals as goal
 
 pub returns-in-Some-Next-clause-ok : goal.returns-in-Some-Next-clause-ok
@@ -15,7 +15,7 @@ returns-in-Some-Next-clause-ok g c =
     let word : list_word_of (tokens_of c.args.line.now) ≡ Some Next =
     sym c.parting_word.ensures ∙ c.in-Some-Next.is ∙ ap Some c.in-Some-Next.field-0-is in
     let is = next_reply c.args.self.now c.args.line.now c.requires.open_list word in
-    silent-says _ _ (with_next c.args.self.now) is.0 (IsReplyTo c.args.self.now c.args.line.now) _ is.1 is.2 c.begin_block.ensures.ok
+    silent-says _ _ (with_block c.args.self.now) is.0 (IsReplyTo c.args.self.now c.args.line.now) _ is.1 is.2 c.begin_block.ensures.ok
 
 pub returns-in-Some-Next-clause-err : goal.returns-in-Some-Next-clause-err
 returns-in-Some-Next-clause-err g c =
@@ -28,7 +28,7 @@ pub returns-in-Some-End-clause-ok : goal.returns-in-Some-End-clause-ok
 returns-in-Some-End-clause-ok g c =
     let word : list_word_of (tokens_of c.args.line.now) ≡ Some End =
     sym c.parting_word.ensures ∙ c.in-Some-End.is ∙ ap Some c.in-Some-End.field-0-is in
-    Says-kept _ (IsEndOfList c.args.self.now) (IsReplyTo c.args.self.now c.args.line.now) _ _ _
+    Says-follows _ (IsEndOfList c.args.self.now) (IsReplyTo c.args.self.now c.args.line.now) _ _ _
     (λ reply is. end_reply c.args.self.now c.args.line.now reply word is) c.end_list.ensures.ok
 
 pub returns-in-Some-End-clause-err : goal.returns-in-Some-End-clause-err
@@ -42,7 +42,7 @@ pub returns-in-None-clause-ok : goal.returns-in-None-clause-ok
 returns-in-None-clause-ok g c =
     let word : list_word_of (tokens_of c.args.line.now) ≡ None = sym c.parting_word.ensures ∙ c.in-None.is in
     let is = keep_reply c.args.self.now c.args.line.now c.requires.open_list word in
-    silent-says _ _ (with_kept c.args.self.now (record { content = c.args.line.now; refused = None })) is.0
+    silent-says _ _ (with_line c.args.self.now (record { content = c.args.line.now; refused = None })) is.0
     (IsReplyTo c.args.self.now c.args.line.now) _ is.1 is.2 c.keep_content.ensures.ok
 
 pub returns-in-None-clause-err : goal.returns-in-None-clause-err
