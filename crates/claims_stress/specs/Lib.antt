@@ -1,2 +1,1 @@
--- what a worker needs
 pub mod Jobs

@@ -1,2 +1,1 @@
--- what a read of a source in memory leaves, and lists that are not empty
 pub mod Memory

@@ -1,4 +1,3 @@
--- The lemmas, in reading order: known bytes, lines of texts, what is taken, kept, shown and told.
 pub mod Known
 pub mod Lines
 pub mod Taking

@@ -1,2 +1,1 @@
--- three texts, one behind another
 pub mod ThreeTexts

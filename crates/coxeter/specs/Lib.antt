@@ -1,2 +1,1 @@
--- the run that the program makes, by what it found of its arguments
 pub mod FoundArguments
