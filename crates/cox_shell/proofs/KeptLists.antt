@@ -3,8 +3,8 @@ use Rattle.std.proofs.Common.{◌≡◌, ◌≤◌, ◌+◌, true, false, inl, i
 use Rattle.std.proofs.Common.{refl, sym, ap, ◌∙◌, subst, arith, length-append, ◌<◌}
 use Rattle.std.proofs.lemmas.Bool.Decides.{nat_tests}
 use Rattle.cox_shell.specs.Reply.{Kept, OpenList}
-use Rattle.cox_shell.specs.OpenLists.{then_line, kept_lines, is_long}
-use Rattle.cox_shell.specs.Keeping.{IsKeptOf, IsBounded}
+use Rattle.cox_shell.specs.OpenLists.{then_line, then_block, kept_lines, is_long}
+use Rattle.cox_shell.specs.Keeping.{IsContinued, itself, line_behind, block_behind, IsKeptOf, IsBounded}
 use Rattle.cox_shell.proofs.Counts.{few_blocks, few_lines}
 
 -- a list with more blocks and lines than one that is too long is too long
@@ -36,6 +36,18 @@ long-line : (list : OpenList) (line : Kept) → is_long list ≡ true → is_lon
 long-line list line long =
     long-more list (then_line list line) (length-line list line) (omega (arith, count-line list line)) long
 
+lines-block : (list : OpenList) → length (kept_lines (then_block list)) ≡ length (kept_lines list)
+lines-block [] = omega arith
+lines-block (block ∷ blocks) = omega (
+  arith,
+  lines-block blocks,
+  length-append block (kept_lines blocks),
+  length-append block (kept_lines (then_block blocks)),
+)
+
+long-block : (list : OpenList) → is_long list ≡ true → is_long (then_block list) ≡ true
+long-block list long = long-more list (then_block list) (omega (arith, length-append list ([] ∷ []))) (omega (arith, lines-block list)) long
+
 -- a list that is not too long is bounded with one more line
 most_blocks : (list : OpenList) (line : Kept) → length (then_line list line) ≤ length list + 1
 most_blocks [] line = omega arith
@@ -46,6 +58,12 @@ bounded-line : (list : OpenList) (line : Kept) → is_long list ≡ false → Is
 bounded-line list line short = (
   omega (arith, most_blocks list line, few_blocks list short),
   omega (arith, count-line list line, few_lines list short),
+)
+
+bounded-block : (list : OpenList) → is_long list ≡ false → IsBounded (then_block list)
+bounded-block list short = (
+  omega (arith, length-append list ([] ∷ []), few_blocks list short),
+  omega (arith, lines-block list, few_lines list short),
 )
 
 -- of a list that is not too long all is kept
@@ -66,11 +84,30 @@ line-taken kept list new line keeps short same = subst (λ (l : OpenList). Keeps
   inl (ap (λ l. then_line l line) (kept-whole kept list keeps.2 short)),
 )
 
+-- and one more block
+pub block-taken : (kept list new : OpenList) → Keeps kept list → is_long kept ≡ false → new ≡ then_block kept → Keeps new (then_block list)
+block-taken kept list new keeps short same = subst (λ (l : OpenList). Keeps l (then_block list)) (sym same) (
+  omega (arith, keeps.0, length-append kept ([] ∷ [])),
+  bounded-block kept short,
+  inl (ap then_block (kept-whole kept list keeps.2 short)),
+)
+
 -- where it is too long, so is the whole list, whatever follows
 long-whole : (kept list : OpenList) → IsKeptOf kept list → is_long kept ≡ true → is_long list ≡ true
 long-whole kept list (inl same) long = ap is_long (sym same) ∙ long
 long-whole kept list (inr both) long = both.1
 
+continued : (kept list : OpenList) → IsKeptOf kept list → IsContinued kept list
+continued kept list (inl same) = subst (λ (l : OpenList). IsContinued kept l) same itself
+continued kept list (inr both) = both.2
+
 pub line-left : (kept list : OpenList) (line : Kept) → Keeps kept list → is_long kept ≡ true → Keeps kept (then_line list line)
-line-left kept list line keeps long =
-    (keeps.0, keeps.1, inr (long, long-line list line (long-whole kept list keeps.2 long)))
+line-left kept list line keeps long = (
+  keeps.0,
+  keeps.1,
+  inr (long, long-line list line (long-whole kept list keeps.2 long), line_behind (continued kept list keeps.2) line),
+)
+
+pub block-left : (kept list : OpenList) → Keeps kept list → is_long kept ≡ true → Keeps kept (then_block list)
+block-left kept list keeps long =
+    (keeps.0, keeps.1, inr (long, long-block list (long-whole kept list keeps.2 long), block_behind (continued kept list keeps.2)))

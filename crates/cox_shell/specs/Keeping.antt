@@ -6,9 +6,15 @@ use Rattle.cox_shell.specs.declared.limits.TheConstants.{MAX_BLOCKS, MAX_LINES}
 use Rattle.cox_shell.specs.Reply.{Kept, OpenList, State}
 use Rattle.cox_shell.specs.OpenLists.{then_line, then_block, kept_lines, is_long}
 
--- what is kept is the whole list, or both are too long
+-- a list, and lists with more lines and blocks behind it
+pub data IsContinued (kept : OpenList) : OpenList → Type 0 where
+  itself : IsContinued kept kept
+  line_behind : {list : OpenList} → IsContinued kept list → (line : Kept) → IsContinued kept (then_line list line)
+  block_behind : {list : OpenList} → IsContinued kept list → IsContinued kept (then_block list)
+
+-- what is kept is the whole list, or both are too long, and the list goes on behind what is kept
 abbrev pub IsKeptOf : OpenList → OpenList → Type 0
-IsKeptOf kept list = (kept ≡ list) ⊎ ((is_long kept ≡ true) × (is_long list ≡ true))
+IsKeptOf kept list = (kept ≡ list) ⊎ ((is_long kept ≡ true) × (is_long list ≡ true) × IsContinued kept list)
 
 -- no more is kept than makes a list too long
 abbrev pub IsBounded : OpenList → Type 0
