@@ -1,10 +1,10 @@
 -- What is kept of a list.
-use Rattle.std.proofs.Common.{◌≡◌, ◌≤◌, ◌+◌, true, false, inl, inr, [], ◌∷◌, ◌++◌, length}
-use Rattle.std.proofs.Common.{refl, sym, ap, ◌∙◌, subst, arith, length-append, ◌<◌}
+use Rattle.std.proofs.Common.{◌≡◌, ◌≤◌, ◌+◌, Bool, true, false, inl, inr, [], ◌∷◌, ◌++◌, length}
+use Rattle.std.proofs.Common.{refl, sym, subst, arith, length-append, ◌<◌}
 use Rattle.std.proofs.lemmas.Bool.Decides.{nat_tests}
 use Rattle.cox_shell.specs.Reply.{Kept, OpenList}
 use Rattle.cox_shell.specs.OpenLists.{then_line, then_block, kept_lines, is_long}
-use Rattle.cox_shell.specs.Keeping.{IsContinued, itself, line_behind, block_behind, IsKeptOf, IsBounded}
+use Rattle.cox_shell.specs.Keeping.{itself, line_behind, block_behind, IsKeptOf, IsBounded}
 use Rattle.cox_shell.proofs.Counts.{few_blocks, few_lines}
 
 -- a list with more blocks and lines than one that is too long is too long
@@ -68,7 +68,7 @@ bounded-block list short = (
 
 -- of a list that is not too long all is kept
 kept-whole : (kept list : OpenList) → IsKeptOf kept list → is_long kept ≡ false → kept ≡ list
-kept-whole kept list (inl same) short = same
+kept-whole kept list (inl same) short = same.0
 kept-whole kept list (inr long) short = absurd (cc (long.0, short))
 
 -- what is kept of a list: at least a block, and no more than makes it too long
@@ -76,38 +76,45 @@ abbrev pub Keeps : OpenList → OpenList → Type 0
 Keeps kept list = (0 < length kept) × IsBounded kept × IsKeptOf kept list
 
 -- where it is not too long one more line is kept
+line-grown : (list : OpenList) (line : Kept) (b : Bool) → is_long (then_line list line) ≡ b → is_long list ≡ false
+    → IsKeptOf (then_line list line) (then_line list line)
+line-grown list line false test short = inl (refl, test)
+line-grown list line true test short = inr (test, test, itself, list, short, inr (line, refl))
+
 pub line-taken : (kept list new : OpenList) (line : Kept) → Keeps kept list → is_long kept ≡ false → new ≡ then_line kept line
     → Keeps new (then_line list line)
 line-taken kept list new line keeps short same = subst (λ (l : OpenList). Keeps l (then_line list line)) (sym same) (
   omega (arith, keeps.0, length-line kept line),
   bounded-line kept line short,
-  inl (ap (λ l. then_line l line) (kept-whole kept list keeps.2 short)),
+  subst (λ (l : OpenList). IsKeptOf (then_line kept line) (then_line l line)) (kept-whole kept list keeps.2 short)
+      (line-grown kept line (is_long (then_line kept line)) refl short),
 )
 
 -- and one more block
+block-grown : (list : OpenList) (b : Bool) → is_long (then_block list) ≡ b → is_long list ≡ false
+    → IsKeptOf (then_block list) (then_block list)
+block-grown list false test short = inl (refl, test)
+block-grown list true test short = inr (test, test, itself, list, short, inl refl)
+
 pub block-taken : (kept list new : OpenList) → Keeps kept list → is_long kept ≡ false → new ≡ then_block kept → Keeps new (then_block list)
 block-taken kept list new keeps short same = subst (λ (l : OpenList). Keeps l (then_block list)) (sym same) (
   omega (arith, keeps.0, length-append kept ([] ∷ [])),
   bounded-block kept short,
-  inl (ap then_block (kept-whole kept list keeps.2 short)),
+  subst (λ (l : OpenList). IsKeptOf (then_block kept) (then_block l)) (kept-whole kept list keeps.2 short)
+      (block-grown kept (is_long (then_block kept)) refl short),
 )
 
 -- where it is too long, so is the whole list, whatever follows
-long-whole : (kept list : OpenList) → IsKeptOf kept list → is_long kept ≡ true → is_long list ≡ true
-long-whole kept list (inl same) long = ap is_long (sym same) ∙ long
-long-whole kept list (inr both) long = both.1
+line-behind : (kept list : OpenList) (line : Kept) → IsKeptOf kept list → is_long kept ≡ true → IsKeptOf kept (then_line list line)
+line-behind kept list line (inl same) long = absurd (cc (long, same.0, same.1))
+line-behind kept list line (inr of) long = inr (of.0, long-line list line of.1, line_behind of.2 line, of.3, of.4, of.5)
 
-continued : (kept list : OpenList) → IsKeptOf kept list → IsContinued kept list
-continued kept list (inl same) = subst (λ (l : OpenList). IsContinued kept l) same itself
-continued kept list (inr both) = both.2
+block-behind : (kept list : OpenList) → IsKeptOf kept list → is_long kept ≡ true → IsKeptOf kept (then_block list)
+block-behind kept list (inl same) long = absurd (cc (long, same.0, same.1))
+block-behind kept list (inr of) long = inr (of.0, long-block list of.1, block_behind of.2, of.3, of.4, of.5)
 
 pub line-left : (kept list : OpenList) (line : Kept) → Keeps kept list → is_long kept ≡ true → Keeps kept (then_line list line)
-line-left kept list line keeps long = (
-  keeps.0,
-  keeps.1,
-  inr (long, long-line list line (long-whole kept list keeps.2 long), line_behind (continued kept list keeps.2) line),
-)
+line-left kept list line keeps long = (keeps.0, keeps.1, line-behind kept list line keeps.2 long)
 
 pub block-left : (kept list : OpenList) → Keeps kept list → is_long kept ≡ true → Keeps kept (then_block list)
-block-left kept list keeps long =
-    (keeps.0, keeps.1, inr (long, long-block list (long-whole kept list keeps.2 long), block_behind (continued kept list keeps.2)))
+block-left kept list keeps long = (keeps.0, keeps.1, block-behind kept list keeps.2 long)

@@ -12,7 +12,7 @@ use Rattle.cox_shell.specs.Reply.{Kept, OpenList, State, Reply, closed, refusal,
 use Rattle.cox_shell.specs.ContentReply.{IsContentReply}
 use Rattle.cox_shell.specs.OpenLists.{kept_lines, is_long, then_block}
 use Rattle.cox_shell.specs.Blocks.{IsBlockLineReply, AreBlockLineReplies, IsListReply, list_answered}
-use Rattle.cox_shell.specs.ListReply.{IsWordReply, IsReplyInList, IsReplyTo, silent_keeping, unread_reply}
+use Rattle.cox_shell.specs.ListReply.{IsWordReply, IsReplyInList, IsReplyTo, reply_when_kept, unread_reply}
 use Rattle.cox_shell.proofs.KeptLines.{kept_refusal}
 use Rattle.cox_shell.proofs.ContentReply.{IsContentReply-unique}
 use Rattle.cox_shell.proofs.ContentReplyExists.{IsContentReply-exists}
@@ -95,9 +95,9 @@ module _ (state : State) (list : OpenList) (content : List ℕ) where
       → one ≡ other
   in_list-unique matrix one other p q = by_word (list_word_of (tokens_of content)) p q where
     by_word : (o : Option ListWord)
-        → MatchOption o (one ≡ silent_keeping state list (record { content = content; refused = None }))
+        → MatchOption o (one ≡ reply_when_kept state list (record { content = content; refused = None }))
         (λ word. IsWordReply word state list one)
-        → MatchOption o (other ≡ silent_keeping state list (record { content = content; refused = None }))
+        → MatchOption o (other ≡ reply_when_kept state list (record { content = content; refused = None }))
         (λ word. IsWordReply word state list other) → one ≡ other
     by_word None p q = p ∙ sym q
     by_word (Some Next) p q = p ∙ sym q
@@ -106,9 +106,9 @@ module _ (state : State) (list : OpenList) (content : List ℕ) where
   in_list-exists : HasMatrix state → (reply : Reply) × IsReplyInList state list content reply
   in_list-exists matrix = by_word (list_word_of (tokens_of content)) where
     by_word : (o : Option ListWord) → (reply : Reply)
-        × MatchOption o (reply ≡ silent_keeping state list (record { content = content; refused = None }))
+        × MatchOption o (reply ≡ reply_when_kept state list (record { content = content; refused = None }))
         (λ word. IsWordReply word state list reply)
-    by_word None = (silent_keeping state list (record { content = content; refused = None }), refl)
+    by_word None = (reply_when_kept state list (record { content = content; refused = None }), refl)
     by_word (Some Next) = (silence (record state { list = Some (then_block list) }), refl)
     by_word (Some End) = IsListReply-exists state matrix list
 
@@ -116,7 +116,7 @@ module _ (state : State) (list : OpenList) (content : List ℕ) where
   pub in_list-group : (reply : Reply) → IsReplyInList state list content reply → (reply.after.group ≡ state.group) × (reply.quits ≡ false)
   in_list-group reply is = by_word (list_word_of (tokens_of content)) is where
     by_word : (o : Option ListWord)
-        → MatchOption o (reply ≡ silent_keeping state list (record { content = content; refused = None }))
+        → MatchOption o (reply ≡ reply_when_kept state list (record { content = content; refused = None }))
         (λ word. IsWordReply word state list reply) → (reply.after.group ≡ state.group) × (reply.quits ≡ false)
     by_word None is = (ap (λ (r : Reply). r.after.group) is, ap (λ (r : Reply). r.quits) is)
     by_word (Some Next) is = (ap (λ (r : Reply). r.after.group) is, ap (λ (r : Reply). r.quits) is)

@@ -1,6 +1,6 @@
 -- What a session keeps of the list that is open. Of one that is too long it keeps no more than makes it so: its end is refused, whatever
 -- follows.
-use Rattle.std.specs.Prelude.{◌≡◌, ◌⊎◌, ◌≤◌, ◌+◌, true, length}
+use Rattle.std.specs.Prelude.{◌≡◌, ◌⊎◌, ◌≤◌, ◌+◌, true, false, length}
 use Rattle.std.specs.Option.{option_map}
 use Rattle.cox_shell.specs.declared.limits.TheConstants.{MAX_BLOCKS, MAX_LINES}
 use Rattle.cox_shell.specs.Reply.{Kept, OpenList, State}
@@ -12,9 +12,15 @@ pub data IsContinued (kept : OpenList) : OpenList → Type 0 where
   line_behind : {list : OpenList} → IsContinued kept list → (line : Kept) → IsContinued kept (then_line list line)
   block_behind : {list : OpenList} → IsContinued kept list → IsContinued kept (then_block list)
 
--- what is kept is the whole list, or both are too long, and the list goes on behind what is kept
+-- a list with one more line, or one more block
+abbrev pub IsOneMore : OpenList → OpenList → Type 0
+IsOneMore list more = (more ≡ then_block list) ⊎ ((line : Kept) × (more ≡ then_line list line))
+
+-- What is kept is the whole list, unless that is too long. Then it is the beginning of the list, up to the line or block that makes it too
+-- long.
 abbrev pub IsKeptOf : OpenList → OpenList → Type 0
-IsKeptOf kept list = (kept ≡ list) ⊎ ((is_long kept ≡ true) × (is_long list ≡ true) × IsContinued kept list)
+IsKeptOf kept list = ((kept ≡ list) × (is_long list ≡ false)) ⊎ ((is_long kept ≡ true) × (is_long list ≡ true) × IsContinued kept list
+    × (short : OpenList) × (is_long short ≡ false) × IsOneMore short kept)
 
 -- no more is kept than makes a list too long
 abbrev pub IsBounded : OpenList → Type 0

@@ -12,8 +12,8 @@ use Rattle.cox_shell.specs.OpenLists.{then_line, then_block}
 use Rattle.cox_shell.specs.Blocks.{IsListReply}
 
 -- the reply to a line that is kept: nothing
-abbrev pub silent_keeping : State → OpenList → Kept → Reply
-silent_keeping state list line = silence (record state { list = Some (then_line list line) })
+abbrev pub reply_when_kept : State → OpenList → Kept → Reply
+reply_when_kept state list line = silence (record state { list = Some (then_line list line) })
 
 -- in a list `next` begins another block and `end` ends the list
 abbrev pub IsWordReply : ListWord → State → OpenList → Reply → Type 0
@@ -23,7 +23,7 @@ IsWordReply End state list reply = IsListReply state list reply
 -- every other line is kept
 abbrev pub IsReplyInList : State → OpenList → List ℕ → Reply → Type 0
 IsReplyInList state list content reply = MatchOption (list_word_of (tokens_of content))
-    (reply ≡ silent_keeping state list (record { content = content; refused = None })) (λ word. IsWordReply word state list reply)
+    (reply ≡ reply_when_kept state list (record { content = content; refused = None })) (λ word. IsWordReply word state list reply)
 
 -- the reply to a line with this content
 abbrev pub IsReplyTo : State → List ℕ → Reply → Type 0
@@ -32,4 +32,4 @@ IsReplyTo state content reply = MatchOption state.list (IsContentReply state con
 -- the reply to a line that is refused by its bytes: in a list it is kept, as a line that is refused for this reason
 abbrev pub unread_reply : State → Refusal → Reply
 unread_reply state why =
-    option_map_or (λ list. silent_keeping state list (record { content = []; refused = Some why })) state.list (refusal state why)
+    option_map_or (λ list. reply_when_kept state list (record { content = []; refused = Some why })) state.list (refusal state why)

@@ -196,12 +196,12 @@ impl Blocks {
     }
 }
 
-/// A list of blocks that is open. Contracts see the lines of each block, and all of them. Once the list is too long no more is kept of it,
-/// so it takes the memory of at most one block and one line more than a list may have.
+/// A list of blocks that is open. Contracts see all its lines, also those that are not kept. Once the list is too long no more is kept of
+/// it, so it takes the memory of at most one block and one line more than a list may have.
 #[derive(Drop)]
 pub struct JobList {
     kept: Blocks,
-    /// The whole list, for contracts alone: it has no bytes.
+    // The whole list, for contracts alone: it has no bytes.
     whole: Snapshot<Blocks>,
 }
 
@@ -269,8 +269,7 @@ impl JobList {
 ghost use Rattle.std.specs.Prelude.{◌≡◌};
 ghost use Rattle.cox_shell.specs.OpenLists.{then_line, then_block, is_long};
 
-/// The whole list with one more line. A snapshot is a value for contracts alone, which no code reads: any is handed on, and the proof says
-/// what contracts see of it.
+/// The whole list with one more line. A snapshot has no bytes, so any one may be returned; the proof by hand gives it this value.
 fn whole_with_line(
     any: Snapshot<Blocks>,
     whole: &Snapshot<Blocks>,

@@ -67,8 +67,8 @@ fn give_up<R: Abort + Threads + Wait + Sync>(
     Ok(())
 }
 
-/// Makes the row of `2132` from rows of which some were given up: the polynomial of `2` and `2132` is 1 + q. Rows that are there are
-/// settled before.
+/// Makes the row of `2132` from rows of which some were given up: the polynomial of `2` and `2132` is 1 + q. What rows are
+/// there is noted before, by `settle_held`.
 fn complete(rt: &impl Abort, rows: &mut Rows) -> Result<(), Fail>
     requires { length rows.old.elements.members ≡ 24 }
 {

@@ -27,6 +27,7 @@ fn settles_the_longest_element(rt: &impl Abort, rows: &mut Rows) -> Result<(), F
     assert!(rt; rows.is_settled(5));
     rows.ensure_all()?;
     let _row = rows.take(5);
+    assert!(rt; !rows.is_settled(4));
     assert!(rt; rows.has_needs(5));
     Ok(())
 }
