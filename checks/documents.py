@@ -12,7 +12,7 @@ that its constant has, where a table or a sentence tells it. Links lead to files
 what is named as a file is one, and a name in backticks stands somewhere in the tree. Lines have
 at most 100 characters, but for tables, blocks of code and links that are too long by themselves.
 docs/BENCHMARKS.md has at most 120 lines. Files of the crates have at most 400 lines, unless
-docs/DECISIONS.md names them, of at most 140 characters.
+docs/DECISIONS.md says why one is longer, and lines of at most 140 characters.
 
 With --write it writes the column of what crates name and the values of limits, fills paragraphs
 that are too wide, and then checks. It prints what is wrong, and a last line with counts; the exit
@@ -32,6 +32,8 @@ WIDTH = 100
 MOST_BENCHMARKS = 120
 # Of a file of the crates: its lines, and the characters of a line.
 MOST_LINES, MOST_WIDE = 400, 140
+# The files of the crates that may have more lines.
+LONG = {"PassStates.antt"}
 DOCUMENTS = ["README.md", "gap/README.md", "gap/doc/CoxeterShell.md", "python/README.md"]
 DOCUMENTS = [name for name in DOCUMENTS if os.path.exists(os.path.join(TOP, name))]
 DOCUMENTS += sorted(
@@ -466,12 +468,12 @@ def lengths(problems):
 
 
 def sizes(problems):
-    """Files of the crates are no longer than they may be, and their lines no wider. A file that
-    docs/DECISIONS.md names may be longer."""
-    named = spans(section(read("docs", "DECISIONS.md"), "## Names and files"))
+    """Files of the crates are no longer than they may be, and their lines no wider. One of those
+    that may be longer has its reason in docs/DECISIONS.md."""
+    named = set(spans(section(read("docs", "DECISIONS.md"), "## Names and files")))
     for path in files_of("crates", (".rt", ".antt")):
         file, lines = os.path.relpath(path, TOP), read(path).splitlines()
-        few = len(lines) <= MOST_LINES or os.path.basename(path) in named
+        few = len(lines) <= MOST_LINES or os.path.basename(path) in LONG & named
         problems.want(few, f"{file} has {len(lines)} lines, more than {MOST_LINES}")
         wide = [str(number) for number, line in enumerate(lines, 1) if len(line) > MOST_WIDE]
         told = f"{file}: lines of more than {MOST_WIDE} characters: {' '.join(wide)}"
