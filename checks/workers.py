@@ -49,7 +49,8 @@ THREADS = [
 ]
 
 # A single row is made by all workers, from those that it needs. For each of these that is dear, and for itself, all threads that may share
-# its polynomials are started once more.
+# its polynomials are started once more. That was 26 times in all by 2, 3 and 4 workers; which worker makes which row is left to chance.
+MOST_ROUNDS = 40
 ONE_ROW = "type E 6\npol e 12314231435423143542654231435426543\n"
 
 
@@ -85,7 +86,7 @@ def threads(count, built):
         count.check("threads of one row with 1 worker", started(ONE_ROW, 1), 0)
         for workers in (2, 4):
             rounds, rest = divmod(started(ONE_ROW, workers), workers - 1)
-            count.check(f"threads of one row with {workers} workers: {rounds} rounds", (rounds > 1, rest), (True, 0))
+            count.check(f"threads of one row with {workers} workers: {rounds} rounds", (1 < rounds < MOST_ROUNDS, rest), (True, 0))
 
 
 def main():
