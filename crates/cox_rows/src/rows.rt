@@ -151,7 +151,7 @@ impl Rows {
 
     /// Takes the row of the member with the number i out; `None` exactly where it is not held. It takes no memory.
     ///
-    /// What is known to be settled is forgotten then. `settle_held` and `ensure` note it anew.
+    /// What is known to be settled is forgotten then. `settle_held` notes it anew, and so do the calls that make rows.
     pub fn take(&mut self, i: u32) -> Option<Row>
         ensures row { IfSome result (IsHeldRow self.old.elements self.old.limit i) }
         ensures exactly { IsSome result ↔ HasRow self.old i }

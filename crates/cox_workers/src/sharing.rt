@@ -19,8 +19,8 @@ impl<'a> WorkerContext<'a> {
 
     /// Makes those rows that the row of the member with the number i needs and that no worker has claimed.
     ///
-    /// Gives one that another worker has claimed, if there is one. The caller is to wait for it and then to try again. The
-    /// seat had not seen that row Published or Void before.
+    /// Gives one that another worker has claimed, if there is one. The caller is to wait for it and then to try again. The seat
+    /// had not seen that row Published or Void before.
     #[cycle(supply)]
     fn supply<R: Threads + Wait + Sync, G: Gate>(
         &self,
@@ -70,8 +70,8 @@ impl<'a> WorkerContext<'a> {
     /// Makes the row of the member with the number u, after those that it needs, if no worker has claimed one of these rows. Where one has,
     /// makes the others that it needs and that are not claimed, as far as it can tell what it needs.
     ///
-    /// Gives one that another worker has claimed, if there is one. The caller is to wait for it and then to try again. The
-    /// seat had not seen that row Published or Void before.
+    /// Gives one that another worker has claimed, if there is one. The caller is to wait for it and then to try again. The seat
+    /// had not seen that row Published or Void before.
     #[cycle(supply)]
     pub(crate) fn provide<R: Threads + Wait + Sync, G: Gate>(
         &self,

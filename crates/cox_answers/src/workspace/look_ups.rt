@@ -69,7 +69,7 @@ impl Workspace {
         }
     }
 
-    /// The number of the element of w, if its row is kept, and it is known that no row that it needs is beyond a limit.
+    /// The number of the element of w, if it is known that all rows that it needs are kept, and that none of them is beyond a limit.
     pub(crate) fn settled_number(&self, w: &Word) -> Option<u32>
         requires { IsWord self.now.table.rank w.now.items }
         ensures row { IfSome result (λ i. IsSomeAnd self.now.rows (HoldsRow (integer_matrix self.now.table) w.now.items i)) }
