@@ -1,6 +1,6 @@
 //! The table of command words.
 ghost use Rattle.std.specs.Prelude.{◌≡◌};
-ghost use Rattle.cox_command.specs.CommandWord.{command_word_of};
+ghost use Rattle.cox_command.specs.CommandWord.{command_text, command_word_of};
 
 use crate::{EntryKind, NoWord, OneWord, RowKind, TwoWord};
 
@@ -25,65 +25,80 @@ pub enum CommandWord {
     Work,
 }
 
-/// The command that a token names.
+/// All commands.
+const COMMANDS: &[CommandWord] = &[
+    CommandWord::Named,
+    CommandWord::Matrix,
+    CommandWord::Quit,
+    CommandWord::Jobs,
+    CommandWord::One(OneWord::Compute),
+    CommandWord::One(OneWord::Length),
+    CommandWord::One(OneWord::Inverse),
+    CommandWord::One(OneWord::Descent),
+    CommandWord::One(OneWord::Coatoms),
+    CommandWord::One(OneWord::Betti),
+    CommandWord::One(OneWord::OfRow(RowKind::Klbasis)),
+    CommandWord::One(OneWord::OfRow(RowKind::Ihbetti)),
+    CommandWord::One(OneWord::OfRow(RowKind::Extremals)),
+    CommandWord::One(OneWord::Cert),
+    CommandWord::One(OneWord::Module),
+    CommandWord::Two(TwoWord::Inorder),
+    CommandWord::Two(TwoWord::Interval),
+    CommandWord::Two(TwoWord::Rpol),
+    CommandWord::Two(TwoWord::OfEntry(EntryKind::Pol)),
+    CommandWord::Two(TwoWord::OfEntry(EntryKind::Mu)),
+    CommandWord::Two(TwoWord::Invpol),
+    CommandWord::Plain(NoWord::Lwgraph),
+    CommandWord::Plain(NoWord::Rwgraph),
+    CommandWord::Plain(NoWord::Lcells),
+    CommandWord::Plain(NoWord::Rcells),
+    CommandWord::Plain(NoWord::Lrcells),
+    CommandWord::Work,
+];
+
+impl CommandWord {
+    /// The word that it begins with.
+    fn text(self) -> &'static [u8]
+        ensures { result.now ≡ command_text self }
+    {
+        match self {
+            CommandWord::Named => b"type",
+            CommandWord::Matrix => b"matrix",
+            CommandWord::Quit => b"quit",
+            CommandWord::Jobs => b"jobs",
+            CommandWord::One(OneWord::Compute) => b"compute",
+            CommandWord::One(OneWord::Length) => b"length",
+            CommandWord::One(OneWord::Inverse) => b"inverse",
+            CommandWord::One(OneWord::Descent) => b"descent",
+            CommandWord::One(OneWord::Coatoms) => b"coatoms",
+            CommandWord::One(OneWord::Betti) => b"betti",
+            CommandWord::One(OneWord::OfRow(RowKind::Klbasis)) => b"klbasis",
+            CommandWord::One(OneWord::OfRow(RowKind::Ihbetti)) => b"ihbetti",
+            CommandWord::One(OneWord::OfRow(RowKind::Extremals)) => b"extremals",
+            CommandWord::One(OneWord::Cert) => b"cert",
+            CommandWord::One(OneWord::Module) => b"module",
+            CommandWord::Two(TwoWord::Inorder) => b"inorder",
+            CommandWord::Two(TwoWord::Interval) => b"interval",
+            CommandWord::Two(TwoWord::Rpol) => b"rpol",
+            CommandWord::Two(TwoWord::OfEntry(EntryKind::Pol)) => b"pol",
+            CommandWord::Two(TwoWord::OfEntry(EntryKind::Mu)) => b"mu",
+            CommandWord::Two(TwoWord::Invpol) => b"invpol",
+            CommandWord::Plain(NoWord::Lwgraph) => b"lwgraph",
+            CommandWord::Plain(NoWord::Rwgraph) => b"rwgraph",
+            CommandWord::Plain(NoWord::Lcells) => b"lcells",
+            CommandWord::Plain(NoWord::Rcells) => b"rcells",
+            CommandWord::Plain(NoWord::Lrcells) => b"lrcells",
+            CommandWord::Work => b"work",
+        }
+    }
+}
+
+/// The command that a token names: the one whose word it is.
 pub fn command_word(token: &[u8]) -> Option<CommandWord>
     ensures { result ≡ command_word_of token.now }
 {
-    if token == b"type".as_slice() {
-        Some(CommandWord::Named)
-    } else if token == b"matrix".as_slice() {
-        Some(CommandWord::Matrix)
-    } else if token == b"quit".as_slice() {
-        Some(CommandWord::Quit)
-    } else if token == b"jobs".as_slice() {
-        Some(CommandWord::Jobs)
-    } else if token == b"compute".as_slice() {
-        Some(CommandWord::One(OneWord::Compute))
-    } else if token == b"length".as_slice() {
-        Some(CommandWord::One(OneWord::Length))
-    } else if token == b"inverse".as_slice() {
-        Some(CommandWord::One(OneWord::Inverse))
-    } else if token == b"descent".as_slice() {
-        Some(CommandWord::One(OneWord::Descent))
-    } else if token == b"coatoms".as_slice() {
-        Some(CommandWord::One(OneWord::Coatoms))
-    } else if token == b"betti".as_slice() {
-        Some(CommandWord::One(OneWord::Betti))
-    } else if token == b"klbasis".as_slice() {
-        Some(CommandWord::One(OneWord::OfRow(RowKind::Klbasis)))
-    } else if token == b"ihbetti".as_slice() {
-        Some(CommandWord::One(OneWord::OfRow(RowKind::Ihbetti)))
-    } else if token == b"extremals".as_slice() {
-        Some(CommandWord::One(OneWord::OfRow(RowKind::Extremals)))
-    } else if token == b"cert".as_slice() {
-        Some(CommandWord::One(OneWord::Cert))
-    } else if token == b"module".as_slice() {
-        Some(CommandWord::One(OneWord::Module))
-    } else if token == b"inorder".as_slice() {
-        Some(CommandWord::Two(TwoWord::Inorder))
-    } else if token == b"interval".as_slice() {
-        Some(CommandWord::Two(TwoWord::Interval))
-    } else if token == b"rpol".as_slice() {
-        Some(CommandWord::Two(TwoWord::Rpol))
-    } else if token == b"pol".as_slice() {
-        Some(CommandWord::Two(TwoWord::OfEntry(EntryKind::Pol)))
-    } else if token == b"invpol".as_slice() {
-        Some(CommandWord::Two(TwoWord::Invpol))
-    } else if token == b"mu".as_slice() {
-        Some(CommandWord::Two(TwoWord::OfEntry(EntryKind::Mu)))
-    } else if token == b"lwgraph".as_slice() {
-        Some(CommandWord::Plain(NoWord::Lwgraph))
-    } else if token == b"rwgraph".as_slice() {
-        Some(CommandWord::Plain(NoWord::Rwgraph))
-    } else if token == b"lcells".as_slice() {
-        Some(CommandWord::Plain(NoWord::Lcells))
-    } else if token == b"rcells".as_slice() {
-        Some(CommandWord::Plain(NoWord::Rcells))
-    } else if token == b"lrcells".as_slice() {
-        Some(CommandWord::Plain(NoWord::Lrcells))
-    } else if token == b"work".as_slice() {
-        Some(CommandWord::Work)
-    } else {
-        None
-    }
+    COMMANDS
+        .iter()
+        .copied()
+        .find(|command| token == command.text())
 }
