@@ -31,6 +31,11 @@ impl Calls {
         self.size.store(size as u64, SeqCst);
         self.made.fetch_add(1, SeqCst) % 3 == 2
     }
+
+    /// The number of calls, and what the last of them asked for or gave.
+    fn told(&self) -> (u64, u64) {
+        (self.made.load(SeqCst), self.size.load(SeqCst))
+    }
 }
 
 /// A stream that gives or takes at most so many bytes at a call.
@@ -122,12 +127,13 @@ fn reads_ask_once(rt: HostRuntime) -> Result<(), Fail> {
                 (0, _) => Got::Failed,
                 _ => Got::Bytes(count),
             };
-            assert_eq!(rt; source.read(&mut buffer), wanted);
+            let got = source.read(&mut buffer);
             made = made.saturating_add(1);
-            assert_eq!(rt; calls.made.load(SeqCst), made);
-            assert_eq!(rt; calls.size.load(SeqCst), size as u64);
             let written = buffer.iter().filter(|byte| **byte == b'a').count();
-            assert_eq!(rt; written, count);
+            assert_eq!(rt;
+                (got, calls.told(), written),
+                (wanted, (made, size as u64), count)
+            );
         }
     }
     Ok(())
@@ -147,10 +153,9 @@ fn writes_ask_once(rt: HostRuntime) -> Result<(), Fail> {
                 0 => Took::Failed,
                 _ => Took::Bytes(count),
             };
-            assert_eq!(rt; sink.write(&bytes), wanted);
+            let took = sink.write(&bytes);
             made = made.saturating_add(1);
-            assert_eq!(rt; calls.made.load(SeqCst), made);
-            assert_eq!(rt; calls.size.load(SeqCst), size as u64);
+            assert_eq!(rt; (took, calls.told()), (wanted, (made, size as u64)));
         }
     }
     Ok(())
@@ -173,9 +178,9 @@ fn faults_are_told_at_once(rt: HostRuntime) -> Result<(), Fail> {
             calls: &calls,
             kind,
         });
-        assert_eq!(rt; source.read(&mut [0u8; 1]), Got::Failed);
-        assert_eq!(rt; sink.write(b"a"), Took::Failed);
-        assert_eq!(rt; calls.made.load(SeqCst), 2);
+        let told = (source.read(&mut [0u8; 1]), sink.write(b"a"));
+        assert_eq!(rt; told, (Got::Failed, Took::Failed));
+        assert_eq!(rt; calls.told(), (2, 1));
     }
     Ok(())
 }
@@ -190,8 +195,7 @@ fn limits(rt: HostRuntime) -> Result<(), Fail> {
     let mut source = StdSource::new(Stream::new(&calls, 7, 5));
     let mut reader = LineReader::new(rt.alloc())?;
     assert!(rt; matches!(reader.next(&mut source), Next::Line(b"aaaaa")));
-    assert_eq!(rt; calls.made.load(SeqCst), 2);
-    assert_eq!(rt; calls.size.load(SeqCst), 4096);
+    assert_eq!(rt; calls.told(), (2, 4096));
     Ok(())
 }
 
@@ -200,14 +204,14 @@ fn hands_on_what_streams_give_and_take(rt: HostRuntime) -> Result<(), Fail> {
     let text: &[u8] = b"abc";
     let mut source = StdSource::new(text);
     let mut buffer = [0u8; 2];
-    assert_eq!(rt; source.read(&mut buffer), Got::Bytes(2));
-    assert_eq!(rt; buffer, *b"ab");
-    assert_eq!(rt; source.read(&mut buffer), Got::Bytes(1));
-    assert_eq!(rt; source.read(&mut buffer), Got::End);
+    let got = source.read(&mut buffer);
+    assert!(rt; got == Got::Bytes(2) && buffer == *b"ab");
+    let got = (source.read(&mut buffer), source.read(&mut buffer));
+    assert_eq!(rt; got, (Got::Bytes(1), Got::End));
 
     let mut room = [0u8; 4];
     let mut sink = StdSink::new(room.as_mut_slice());
-    assert_eq!(rt; write_all(&mut sink, b"abcd"), Ok(()));
-    assert_eq!(rt; sink.write(b"e"), Took::Failed);
+    let took = (write_all(&mut sink, b"abcd"), sink.write(b"e"));
+    assert_eq!(rt; took, (Ok(()), Took::Failed));
     Ok(())
 }
