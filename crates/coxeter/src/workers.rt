@@ -159,26 +159,24 @@ fn few_rows_pass_no_gate(rt: HostRuntime) -> Result<(), Fail> {
 #[test]
 fn answer_by_calls(rt: HostRuntime) -> Result<(), Fail> {
     let options = cox_options::read(rt.alloc(), &["coxeter", "--workers", "3"])?;
-    let mut session = Session::new(options);
-    let mut out = Vec::new(rt.alloc());
-    answer_lines(&rt, &mut session, &mut out)?;
-    assert!(rt; out.as_slice() == b"1+q\n1\n1+q\nerror 18\n1+q\nerror 18\n".as_slice());
-    Ok(())
+    answer_lines(&rt, rt.alloc(), &mut Session::new(options))
 }
 
 /// Answers two lines, and then a list with a line that is too long: by workers, and by one thread.
-fn answer_lines<R: Threads + Wait + Sync>(
+fn answer_lines<R: Abort + Threads + Wait + Sync>(
     rt: &R,
+    alloc: Global,
     session: &mut Session,
-    out: &mut Vec<u8>,
 ) -> Result<(), Fail> {
-    session.answer(b"type A 3", out)?;
+    let mut out = Vec::new(alloc);
+    session.answer(b"type A 3", &mut out)?;
     for line in ["pol 2 2132", "mu 2 2132", "jobs", "pol 2 2132", "next"] {
-        session.answer_with(rt, line.as_bytes(), out, &Open)?;
+        session.answer_with(rt, line.as_bytes(), &mut out, &Open)?;
     }
-    session.bad(18, out)?;
+    session.bad(18, &mut out)?;
     let blocks = session.blocks().ok_or("no list is open")?;
-    session.answer_jobs(rt, blocks, out, &Open)?;
-    session.answer_jobs_one(blocks, out)?;
+    session.answer_jobs(rt, blocks, &mut out, &Open)?;
+    session.answer_jobs_one(blocks, &mut out)?;
+    assert!(rt; out.as_slice() == b"1+q\n1\n1+q\nerror 18\n1+q\nerror 18\n".as_slice());
     Ok(())
 }

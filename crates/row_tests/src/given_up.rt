@@ -1,11 +1,14 @@
 //! A row that a worker gave up, and that one thread makes afterwards.
-ghost use Rattle.std.specs.Prelude.{◌≡◌, length, OnOk};
+ghost use Rattle.std.specs.Prelude.{◌≡◌, length, IfOk, OnOk};
 ghost use Rattle.cox_claims.specs.Seats.{HoldsNothing};
+ghost use Rattle.cox_claims.specs.declared.view.View.{View};
 ghost use Rattle.cox_row_store.specs.Stores.{elements_of, IsSeat};
+ghost use Rattle.cox_row_store.specs.Taken.{AreTaken};
 
 use crate::fixtures::elements;
 use cox_context::Context;
 use cox_doubles::Census;
+use cox_row::Row;
 use cox_row_store::{Claimed, RowState, RowStore, Seat};
 use cox_rows::Rows;
 use cox_workers::{Missing, WorkerContext, WorkerScratch, all_members, fill};
@@ -18,22 +21,33 @@ use std::thread::Threads;
 /// The greatest coefficient.
 const LIMIT: i64 = 2_147_483_647;
 
-/// In A 3 the row of `2132`, the member 18, needs that of `2`, the member 2. Workers pass the gate before they claim a row, also one that
-/// they give up, so in the end all 24 are counted.
+/// In A 3 the row of `2132`, the member 18, needs that of `2`, the member 2.
 #[test]
 fn makes_a_row_that_was_given_up(rt: HostRuntime) -> Result<(), Fail> {
-    let alloc = rt.alloc();
-    let context = elements(&rt, alloc, b'A', 3, 24)?;
-    let (store, mut seat) = RowStore::new(alloc, &context, LIMIT)?;
-    let gate = Census::new(alloc, 1, 24)?;
-    give_up(&rt, alloc, &context, &store, &mut seat, &gate)?;
-    let all = all_members(alloc, &context)?;
-    let seat = fill(&rt, alloc, &context, &store, seat, all.as_slice(), 2, &gate);
-    let made = store.into_rows(&rt, seat);
-    let mut rows = Rows::new(alloc, context, LIMIT)?;
+    let context = elements(&rt, rt.alloc(), b'A', 3, 24)?;
+    let made = rows_but_some(&rt, rt.alloc(), &context)?;
+    let mut rows = Rows::new(rt.alloc(), context, LIMIT)?;
     rows.adopt(made);
-    assert!(rt; rows.has(0) && !rows.has(2) && !rows.has(18) && gate.claimed() == 24);
     complete(&rt, &mut rows)
+}
+
+/// The rows that two workers make of all members, where some were given up before. Workers pass the gate before they claim a row, also one
+/// that they give up, so in the end all 24 are counted.
+fn rows_but_some<R: Abort + Threads + Wait + Sync>(
+    rt: &R,
+    alloc: Global,
+    context: &Context,
+) -> Result<Vec<Option<Row>>, Fail>
+    requires members { length context.now.members ≡ 24 }
+    ensures rows { IfOk result (λ made. (view : View) × AreTaken context.now LIMIT view made.items) }
+{
+    let (store, mut seat) = RowStore::new(alloc, context, LIMIT)?;
+    let gate = Census::new(alloc, 1, 24)?;
+    let all = all_members(alloc, context)?;
+    give_up(rt, alloc, context, &store, &mut seat, &gate)?;
+    let seat = fill(rt, alloc, context, &store, seat, &all, 2, &gate);
+    assert!(rt; gate.claimed() == 24);
+    Ok(store.into_rows(rt, seat))
 }
 
 /// Gives up the row of `2`. A worker that then wants that of `2132` gives it up too. It comes to claim the rows of `2132`, `132`, `32` and
@@ -72,6 +86,7 @@ fn give_up<R: Abort + Threads + Wait + Sync>(
 fn complete(rt: &impl Abort, rows: &mut Rows) -> Result<(), Fail>
     requires { length rows.old.elements.members ≡ 24 }
 {
+    assert!(rt; rows.has(0) && !rows.has(2) && !rows.has(18));
     rows.settle_held();
     for i in 0..24 {
         assert_eq!(rt; rows.is_settled(i), rows.has(i));
