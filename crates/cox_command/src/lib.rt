@@ -4,9 +4,9 @@
 //! Grammar and causes are definitions of their own in `specs/`, one table or one test each. The parts of a line are those of `cox_tokens`.
 //! Nothing here takes memory.
 //!
-//! A new command with words, or without arguments, is a variant, a row in `command_text`, a place in the list `commands`, and the same
-//! two in `command_word.rt`. One of another shape is also a variant of `Inquiry` and `CommandWord`, a function that reads its arguments, a case of
-//! `command_by`, and a case of each test in `specs/LineRefusal.antt` that speaks of it.
+//! A new command with words, or without arguments, is a variant, a row in `command_text`, a place in the list `commands`, and the same two
+//! in `command_word.rt`. One of another shape is also a variant of `Inquiry` and `CommandWord`, a function that reads its arguments, a case
+//! of `command_by`, and a case of each test in `specs/LineRefusal.antt` that speaks of it.
 //!
 //! - `command`: commands as values, and why a line gives none
 //! - `inquiry`: commands on elements, and on the whole group
