@@ -4,10 +4,11 @@
 //! is R(sx,u), and else it is (q-1) R(x,u) + q R(sx,u), where R(sx,u) is 0 unless sx <= u. So a layer leads to the next by links, which
 //! stay while the elements go, and the values come back by them from the end of the word, where the identity alone is left.
 //! There is no value where a number of an element overflows.
-ghost use Rattle.std.specs.Prelude.{◌≡◌, ◌+◌, ◌≤◌, [], ◌∷◌, length, IfOk, IfErr, OnOk, OnErr, IsTrue, All, Contains};
+ghost use Rattle.std.specs.Prelude.{◌≡◌, ℕ, List, ◌+◌, ◌≤◌, [], ◌∷◌, length, IfOk, IfErr, OnOk, OnErr, IsTrue, All, Contains};
 ghost use Rattle.cox_base.specs.Matrix.{IsLetter, IsWord};
 ghost use Rattle.cox_base.specs.Admissible.{IsAdmissible};
 ghost use Rattle.cox_base.specs.IntegerMatrix.{integer_matrix};
+ghost use Rattle.cox_base.specs.Descents.{IsLeftDescent};
 ghost use Rattle.cox_base.specs.Reduced.{IsReduced};
 ghost use Rattle.cox_rpoly.specs.Layer.{IsInLayer, AreLayerValues, AreLinks, IsLink, IsAt, HasGained, Extends, IsLackedBy};
 ghost use Rattle.cox_rpoly.specs.declared.no_value.NoValue.TheVariants.{NoMemory};
@@ -97,7 +98,7 @@ fn links<W: Words, E: Element>(
         links.items) }
     ensures sure { IsTrue E.is_sure → IfErr result (λ e. e ≡ NoMemory) }
 {
-    let mut links = Vec::with_capacity(alloc, layer.len())?;
+    let mut links = Vec::new(alloc);
     for x in layer {
         let link = link(words, s, rest, x, next)?;
         let Ok(()) = links.push(link) else {
@@ -134,6 +135,34 @@ fn link<W: Words, E: Element>(
     if x.is_shortened(words, s) {
         return Ok(Link::Shorter(number(next, moved)?));
     }
+    longer_link(words, s, rest, x, moved, next)
+}
+
+/// The same for an element that s doesn't shorten, with s x.
+fn longer_link<W: Words, E: Element>(
+    words: &W,
+    s: u8,
+    rest: &[u8],
+    x: &E,
+    moved: E,
+    next: &mut IndexSet<E>,
+) -> Result<Link, NoValue>
+    requires admissible { IsAdmissible (integer_matrix (W.matrix words.now)) }
+    requires letters { IsWord (W.matrix words.now).rank rest.now }
+    requires reduced { IsReduced (integer_matrix (W.matrix words.now)) (s ∷ rest.now) }
+    requires short { length rest.now + 1 ≤ W.longest words.now }
+    requires member { IsInLayer E.is_of (integer_matrix (W.matrix words.now)) (s ∷ rest.now) x.now }
+    requires members { All (IsInLayer E.is_of (integer_matrix (W.matrix words.now)) rest.now) next.old.keys }
+    requires ascent { (u : List ℕ) → E.is_of (integer_matrix (W.matrix words.now)) u x.now
+        → ¬ IsLeftDescent (integer_matrix (W.matrix words.now)) u s }
+    requires times { (u : List ℕ) → E.is_of (integer_matrix (W.matrix words.now)) u x.now
+        → E.is_of (integer_matrix (W.matrix words.now)) (s ∷ u) moved }
+    ensures members { OnOk result (All (IsInLayer E.is_of (integer_matrix (W.matrix words.now)) rest.now) next.new.keys) }
+    ensures extends { OnOk result (Extends next.old.keys next.new.keys) }
+    ensures link { IfOk result (IsLink E.is_of (integer_matrix (W.matrix words.now)) s rest.now x.now next.new.keys) }
+    ensures sure { IsTrue E.is_sure → IfErr result (λ e. e ≡ NoMemory) }
+    ensures fault { IfErr result (λ e. e ≡ NoMemory → IsLackedBy E.is_of (integer_matrix (W.matrix words.now)) rest.now next.old.keys) }
+{
     let still = number(next, x.copied())?;
     match moved.is_below(words, rest) {
         None => Err(NoValue::Overflow),

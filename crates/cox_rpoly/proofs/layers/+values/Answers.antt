@@ -59,8 +59,8 @@ pub terms_of_links-requires : goal.terms_of_links-requires
 terms_of_links-requires g t c =
     let A : IntegerMatrix = integer_matrix (g.W.Words.matrix c.args.words.now)
     in rw (c.as_slice.ensures.value, c.as_slice-2.ensures.value)
-    (AreLinks-within g.E.Element.is_of A c.requires.admissible c.in-Some.field-0-0.now c.in-Some.rest.now c.args.layer.keys c.in_ok-next.next.keys
-    c.in_ok-next.links.items c.in_ok-values.values.items c.in_ok-next.ensures.links c.in_ok-values.ensures.values
+    (AreLinks-within g.E.Element.is_of A c.requires.admissible c.in-Some.field-0-0.now c.in-Some.rest.now c.args.layer.keys
+    c.in_ok-next.next.keys c.in_ok-next.links.items c.in_ok-values.values.items c.in_ok-next.ensures.links c.in_ok-values.ensures.values
     (rw c.in-Some.ensures.cases.0 at c.requires.members))
 
 pub returns-clause-values : goal.returns-clause-values

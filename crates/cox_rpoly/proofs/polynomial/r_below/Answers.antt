@@ -21,10 +21,10 @@ pub returns-then-difference-gt-MAX_DIFFERENCE-clause-deep : goal.returns-then-di
 returns-then-difference-gt-MAX_DIFFERENCE-clause-deep g c =
     let A : IntegerMatrix = integer_matrix (g.W.Words.matrix c.args.words.now)
     in λ d. (
-      λ e. let same : c.len.result - c.len-2.result ≡ d = cc in IsDeep-difference A c.requires.admissible c.normal_form.ensures c.normal_form-form.ensures
-          c.len-2.ensures.value c.len.ensures.value c.requires.below d same (omega arith),
-      λ deep. rw (difference-is A c.requires.admissible c.normal_form.ensures c.normal_form-form.ensures c.len-2.ensures.value c.len.ensures.value
-          c.requires.below d deep) refl,
+      λ e. let same : c.len.result - c.len-2.result ≡ d = cc in IsDeep-difference A c.requires.admissible
+          c.normal_form.ensures c.normal_form-form.ensures c.len-2.ensures.value c.len.ensures.value c.requires.below d same (omega arith),
+      λ deep. rw (difference-is A c.requires.admissible c.normal_form.ensures c.normal_form-form.ensures c.len-2.ensures.value
+          c.len.ensures.value c.requires.below d deep) refl,
     )
 
 pub along_any-requires-clause-letters : goal.along_any-requires-clause-letters
@@ -64,8 +64,8 @@ returns-in-Err-clause-deep g c =
     let A : IntegerMatrix = integer_matrix (g.W.Words.matrix c.args.words.now)
     in λ d. (
       λ e. absurd (cc),
-      λ deep. absurd (not_deep A c.requires.admissible c.normal_form.ensures c.normal_form-form.ensures c.len-2.ensures.value c.len.ensures.value
-          c.requires.below (omega arith) d deep),
+      λ deep. absurd (not_deep A c.requires.admissible c.normal_form.ensures c.normal_form-form.ensures c.len-2.ensures.value
+          c.len.ensures.value c.requires.below (omega arith) d deep),
     )
 
 pub returns-in-Ok-clause-value : goal.returns-in-Ok-clause-value
