@@ -37,13 +37,32 @@ fn first_cause(alloc: Global, draft: &Draft) -> Result<Option<Cause>, AllocError
     if !has_top(draft) {
         return Ok(Some(Cause::Top));
     }
-    let Some(context) = interval_of(alloc, draft)? else {
-        return Ok(Some(Cause::Interval));
-    };
+    match interval_of(alloc, draft)? {
+        Some(context) => cause_within(alloc, draft, &context),
+        None => Ok(Some(Cause::Interval)),
+    }
+}
+
+/// The first cause that applies where the element and the words are right. Memory runs out only where no polynomial is too large, that of
+/// the element is 1 and the degrees of the others are low: any other row that is wrong is told as that.
+fn cause_within(
+    alloc: Global,
+    draft: &Draft,
+    context: &Context,
+) -> Result<Option<Cause>, AllocError>
+    requires certificate { HasCertificate draft.now }
+    requires top { StatesTop draft.now }
+    requires interval { StatesInterval draft.now }
+    requires matrix { context.now.matrix ≡ draft.now.group }
+    requires members { context.now.members ≡ letters_of draft.now.words.items }
+    ensures first { IfOk result (λ cause. (c : Certificate) → IsCertificate c → IsDraftOf draft.now c → IsFirst cause c) }
+    ensures small { OnErr result (draft.now.large ≡ false) }
+    ensures bounded { OnErr result (StatesBounded draft.now) }
+{
     if draft.large {
         return Ok(Some(Cause::Size));
     }
-    if !has_row(alloc, draft, &context)? {
+    if !has_row(alloc, draft, context)? {
         return Ok(Some(Cause::Row));
     }
     Ok(None)

@@ -1,5 +1,7 @@
 -- The steps of one root, letter by letter.
-use Rattle.std.proofs.Common.{◌≡◌, ℕ, ◌+◌, ◌-◌, ◌*◌, ◌≤◌, ◌<◌, List, length, get_or, set, ⊎_elim, arith}
+use Rattle.std.proofs.Common.{◌≡◌, ℕ, ◌+◌, ◌-◌, ◌*◌, ◌≤◌, ◌<◌, List, [], ◌∷◌, ◌++◌, length, get_or, set, Contains, ⊎_elim, arith}
+use Rattle.std.specs.Prelude.{Result, Ok, Err, OnErr}
+use Rattle.std.proofs.lemmas.List.{length-append}
 use Rattle.std.proofs.lemmas.Bool.{cases_lt}
 use Rattle.cox_base.specs.declared.limits.TheConstants.{MAX_RANK}
 use Rattle.cox_minroots.specs.declared.closure.TheConstants.{MAX_SMALL_ROOTS}
@@ -10,10 +12,16 @@ use Rattle.cox_reflect.specs.Transpose.{transposed}
 use Rattle.cox_reflect.proofs.Admissible.{IsAdmissible-integer_matrix}
 use Rattle.cox_minroots.specs.declared.root.Root.{Root}
 use Rattle.cox_minroots.specs.Coordinates.{weight, rise, CanTurn}
-use Rattle.cox_minroots.specs.RootLists.{root_at, IsInserted}
+use Rattle.cox_small.specs.SmallRoots.{HasMoreSmallRoots}
+use Rattle.cox_minroots.specs.RootLists.{root_at, IsInserted, last}
 use Rattle.cox_minroots.specs.Closure.{AreSmall, HasStep, IsLonger}
 use Rattle.cox_minroots.proofs.SmallRootLists.{longer-refl, longer-trans, longer-inserted, inserted-length, HasStep-longer, passed}
-use Rattle.cox_minroots.proofs.SmallRootLists.{can_turn, added}
+use Rattle.cox_minroots.proofs.SmallRootLists.{can_turn, added, more-than}
+
+-- what holds where the next root has no room
+pub on_err : {X E P : Type 0} (r : Result X E) → P → OnErr r P
+on_err (Ok x) p = tt
+on_err (Err e) p = p
 
 -- the letters below s are done
 pub record IsStepping (A : IntegerMatrix) (old new : List Root) (i s : ℕ) : Type 0 where
@@ -74,3 +82,12 @@ module _ (x : CoxeterMatrix) (matrix : IsCoxeterMatrix x) (fits : x.rank ≤ MAX
     stepping-added r er ec more m n put =
         let both = added A g fits new h.small i h.within s ls r (rw at at er) (rw at at ec) (rw (is, at) at m) (rw (is, at) at n) room put
         in next more (longer-inserted put) (inserted-length put) both.0 both.1
+
+    -- an image that is not there is one small root more
+    pub stepping-lacks : (r : Root)
+        → r.root ≡ set root.root (s - 1) (weight (integer_matrix x) s root.root - 3 * get_or root.root (s - 1) 0)
+        → r.coroot ≡ set root.coroot (s - 1) (weight (transposed (integer_matrix x)) s root.coroot - 3 * get_or root.coroot (s - 1) 0)
+        → 1 ≤ product → product ≤ 3 → (Contains new r → ⊥) → HasMoreSmallRoots (integer_matrix x) (length old)
+    stepping-lacks r er ec m n lacks =
+        let all = stepping-added r er ec (new ++ r ∷ []) m n (last lacks)
+        in more-than A (length old) (new ++ r ∷ []) all.small (omega (arith, h.longer.longer, length-append new (r ∷ [])))

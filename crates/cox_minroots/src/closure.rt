@@ -1,5 +1,5 @@
 //! All the small roots, breadth first from the simple ones.
-ghost use Rattle.std.specs.Prelude.{◌≡◌, ℕ, ◌+◌, ◌<◌, ◌≤◌, length, IfOk, IfErr, OnOk};
+ghost use Rattle.std.specs.Prelude.{◌≡◌, ℕ, ◌+◌, ◌<◌, ◌≤◌, length, IfOk, IfErr, OnOk, OnErr};
 ghost use Rattle.cox_base.specs.Matrix.{IsLetter};
 ghost use Rattle.cox_base.specs.IntegerMatrix.{integer_matrix};
 ghost use Rattle.cox_small.specs.SmallRoots.{HasMoreSmallRoots};
@@ -29,15 +29,30 @@ pub(crate) fn close(alloc: Global, g: &Coxeter, max: u32) -> Result<Roots, RootF
     };
     let mut i = 0;
     while i < roots.len() {
-        if roots.len() > max as usize {
-            return Err(RootFault::TooMany { seen: max + 1 });
-        }
-        let Ok(()) = add_steps(g, &mut roots, i) else {
-            return Err(RootFault::NoMemory);
-        };
+        add_steps_within(g, &mut roots, i, max)?;
         i += 1;
     }
     Ok(roots)
+}
+
+/// Adds what short steps make of the root `i`, unless there are too many roots already.
+fn add_steps_within(g: &Coxeter, roots: &mut Roots, i: usize, max: u32) -> Result<(), RootFault>
+    requires limit { max ≤ MAX_SMALL_ROOTS }
+    requires small { AreSmall (integer_matrix g.now) roots.old }
+    requires within { i < length roots.old }
+    ensures few { OnOk result (length roots.old ≤ max) }
+    ensures small { OnOk result (AreSmall (integer_matrix g.now) roots.new) }
+    ensures longer { OnOk result (IsLonger roots.old roots.new) }
+    ensures steps { OnOk result ((s : ℕ) → IsLetter g.now.rank s → HasStep (integer_matrix g.now) roots.new i s) }
+    ensures fault { IfErr result (WhenTooMany (λ seen. (seen ≡ max + 1) × HasMoreSmallRoots (integer_matrix g.now) max)) }
+{
+    if roots.len() > max as usize {
+        return Err(RootFault::TooMany { seen: max + 1 });
+    }
+    match add_steps(g, roots, i) {
+        Ok(()) => Ok(()),
+        Err(_) => Err(RootFault::NoMemory),
+    }
 }
 
 /// The simple roots.
@@ -52,7 +67,7 @@ fn simple_roots(alloc: Global, g: &Coxeter) -> Result<Roots, AllocError>
     Ok(roots)
 }
 
-/// Adds what short steps make of the root `i`.
+/// Adds what short steps make of the root `i`. Memory can run out only where there are more small roots than before.
 fn add_steps(g: &Coxeter, roots: &mut Roots, i: usize) -> Result<(), AllocError>
     requires small { AreSmall (integer_matrix g.now) roots.old }
     requires within { i < length roots.old }
@@ -60,6 +75,7 @@ fn add_steps(g: &Coxeter, roots: &mut Roots, i: usize) -> Result<(), AllocError>
     ensures small { OnOk result (AreSmall (integer_matrix g.now) roots.new) }
     ensures longer { OnOk result (IsLonger roots.old roots.new) }
     ensures steps { OnOk result ((s : ℕ) → IsLetter g.now.rank s → HasStep (integer_matrix g.now) roots.new i s) }
+    ensures fault { OnErr result (HasMoreSmallRoots (integer_matrix g.now) (length roots.old)) }
 {
     for s in 1..g.rank() as u8 + 1 {
         let root = roots.at(i);

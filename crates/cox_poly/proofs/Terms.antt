@@ -1,17 +1,18 @@
 -- The text of a polynomial, written term by term.
 use Rattle.std.proofs.Common.{◌≡◌, ◌≢◌, ℕ, zero, suc, ◌+◌, ◌<◌, ◌≤◌, Bool, true, false, not, List, ◌∷◌, ◌++◌, length, drop, filter}
 use Rattle.std.proofs.Common.{flat_map, codes, refl, ap, append_assoc, length-append, add-one, arith}
-use Rattle.std.proofs.Common.{ℤ, pos, negsuc}
+use Rattle.std.proofs.Common.{ℤ, pos, negsuc, Result, sym, ◌∙◌, append-nil}
 use Rattle.std.specs.Ordering.{int_eq}
 use Rattle.std.specs.List.{enumerate_from}
 use Rattle.std.proofs.Math.Seq.{drop-cons}
 use Rattle.std.proofs.lemmas.List.{drop_all}
 use Rattle.std.proofs.lemmas.Bool.Decides.{nat_tests}
 use Rattle.cox_poly.specs.Polynomial.{coefficient}
-use Rattle.cox_poly.specs.Puts.{PutsPrefix}
+use Rattle.std.specs.declared.alloc.AllocError.{AllocError}
+use Rattle.cox_poly.specs.Puts.{PutsPrefix, Puts}
 use Rattle.cox_poly.specs.PolynomialText.{next_term_text, terms_text}
 use Rattle.cox_poly.specs.ListedText.{listed_term_text}
-use Rattle.cox_poly.proofs.Behind.{PutsPrefix-first, PutsPrefix-second, append-second}
+use Rattle.cox_poly.proofs.Behind.{PutsPrefix-first, PutsPrefix-second, Puts-second, append-second}
 
 -- the terms from degree k on
 abbrev pub terms_from : ℕ → List ℤ → List (ℕ × ℤ)
@@ -91,3 +92,15 @@ rest_text-term p k first h e =
 pub rest_text-zero : (p : List ℤ) (k : ℕ) (first : Bool) → first ≡ true → length p ≤ k → rest_text first (terms_from k (drop k p))
     ≡ codes "0"
 rest_text-zero p k first none past = rw (none, drop_all k p past) refl
+
+-- and then the last piece
+pub Written-last : {old out text rest : List ℕ} (result : Result Unit AllocError) (new piece : List ℕ) → Written old out text rest
+    → rest ≡ piece → Puts result piece out new → Puts result text old new
+Written-last {old} {out} result new piece w is put = rw (w.parts, is) (Puts-second result w.prefix piece old out new w.behind put)
+
+-- where some terms are written and none is left, all of the text is
+pub Written-all : {old out text : List ℕ} (p : List ℤ) (k : ℕ) (first : Bool) → first ≡ false → length p ≤ k
+    → Written old out text (rest_text first (terms_from k (drop k p))) → out ≡ old ++ text
+Written-all {old} {out} {text} p k first some past w =
+    let none = rw (some, drop_all k p past) at w.parts in
+    w.behind ∙ ap (λ l. old ++ l) (sym (none ∙ append-nil w.prefix))

@@ -207,11 +207,11 @@ impl Acc {
             coefficient self.new k ≡ coefficient_after self.old p.now factor shift k }
     {
         let coefficients = p.coefficients();
-        let end = coefficients.len() + shift as usize;
-        if !coefficients.is_empty() {
-            add_into(&mut self.sums, coefficients, factor, shift as usize);
-            self.used = self.used.max(end);
+        if coefficients.is_empty() {
+            return;
         }
+        add_into(&mut self.sums, coefficients, factor, shift as usize);
+        self.used = self.used.max(coefficients.len() + shift as usize);
     }
 
     /// The coefficients, from the constant one up; zeros may end this list.

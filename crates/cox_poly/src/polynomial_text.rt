@@ -111,8 +111,5 @@ pub(crate) fn put_polynomial(out: &mut Vec<u8>, coefficients: &[i64]) -> Result<
             first = false;
         }
     }
-    if first {
-        put_text(out, b"0")?;
-    }
-    Ok(())
+    if first { put_text(out, b"0") } else { Ok(()) }
 }

@@ -20,7 +20,7 @@ use Rattle.cox_hecke.specs.Sums.{sum_over}
 use Rattle.cox_context.specs.Numbers.{word_at}
 use Rattle.cox_rowcheck.specs.MemberFamily.{family_of}
 use Rattle.cox_rowcheck.specs.Columns.{IsColumn}
-use Rattle.cox_rowcheck.specs.MemberSums.{HasAdded, AreSums}
+use Rattle.cox_rowcheck.specs.MemberSums.{HasAdded, AreZeros, AreSums}
 
 sum_over-append : (xs ys : List (List ℕ)) (f : Family) (k : ℕ) → sum_over (xs ++ ys) f k ≡ sum_over xs f k +ℤ sum_over ys f k
 sum_over-append [] ys f k = omega (arith, ints)
@@ -32,6 +32,10 @@ sum_over-more words n f k l =
     rw (take_more words n [] l) (omega (arith, ints, sum_over-append (take n words) (word_at words n ∷ []) f k))
 
 module _ (A : IntegerMatrix) (members : List (List ℕ)) (polynomials : List (List ℤ)) where
+  -- over no words the sums are 0
+  pub sums-none : (sums : List (List ℤ)) (n : ℕ) → n ≡ length members → AreZeros n sums → AreSums A members polynomials [] sums
+  sums-none sums n count zeros = record { size = zeros.size ∙ count; value = λ i k _. zeros.zero i k }
+
   -- one word y more: R(x,y) p was added at each member x, and p is p(y)
   pub sums-more : (words : List (List ℕ)) (n : ℕ) (old new column : List (List ℤ)) (p : List ℤ) → n < length words
       → AreSums A members polynomials (take n words) old

@@ -19,6 +19,14 @@ module _ (A : IntegerMatrix) (members : List (List ℕ)) where
   prefix-at word stack d column are l is =
       subst (λ (other : Column). IsColumnOf A members (take d word) other) (sym is) (are.each d column l)
 
+  -- the one of no letters, at the start
+  pub prefixes-none : (column : Column) → IsColumnOf A members [] column → ArePrefixes A members [] (column ∷ [])
+  prefixes-none column is = record {
+    some = omega arith;
+    within = omega arith;
+    each = λ d other below. let start : d ≡ 0 = omega (arith, below) in rw start is;
+  }
+
   -- one letter more
   pub prefixes-more : (word : List ℕ) (stack : List Column) (column : Column) (n : ℕ) → ArePrefixes A members word stack → length stack ≡ n
       → n ≤ length word → IsColumnOf A members (take n word) column → ArePrefixes A members word (stack ++ column ∷ [])

@@ -1,10 +1,10 @@
 -- Layers: one element more, and what is a member of the next.
 use Rattle.std.proofs.Common.{◌≡◌, ℕ, ◌+◌, ◌<◌, ◌≤◌, Some, None, List, [], ◌∷◌, ◌++◌, length, take, get_or, inl, inr, ap, sym, ◌∙◌, ⊎_elim}
 use Rattle.std.proofs.Common.{arith}
-use Rattle.std.specs.Prelude.{All}
+use Rattle.std.specs.Prelude.{All, Contains, Result, Ok, Err, IfErr}
 use Rattle.std.proofs.lemmas.Bool.{cases_lt}
 use Rattle.std.proofs.lemmas.List.{length-append, get_or_append_left, take_more}
-use Rattle.std.proofs.lemmas.List.Elements.{All-append, All-cons, All-nil}
+use Rattle.std.proofs.lemmas.List.Elements.{All-append, All-cons, All-nil, Contains-append_left}
 use Rattle.std.proofs.Math.Seq.{get_or-append_seam}
 use Rattle.cox_base.specs.IntegerMatrix.{IntegerMatrix}
 use Rattle.cox_base.specs.Admissible.{IsAdmissible}
@@ -19,6 +19,11 @@ use Rattle.cox_rpoly.specs.declared.terms.Link.{Link}
 use Rattle.cox_rpoly.specs.declared.terms.Link.TheVariants.{Shorter, Longer}
 use Rattle.cox_rpoly.specs.ElementValues.{Naming, IsShortElement}
 use Rattle.cox_rpoly.specs.Layer.{IsInLayer, HasGained, Extends, IsTimesAt, IsLongerLink, IsLink, AreLinks}
+
+-- what holds of each fault
+pub if_err : {T E : Type 0} {P : E → Type 0} (r : Result T E) → ((e : E) → P e) → IfErr r P
+if_err (Ok x) p = tt
+if_err (Err e) p = p e
 
 module _ {X : Type 0} where
   -- ---- one element more
@@ -36,6 +41,11 @@ module _ {X : Type 0} where
           is = λ d. get_or_append_left old (x ∷ []) d i a.within ∙ a.is d;
         });
   }
+
+  -- what is not there now was not there
+  pub HasGained-lacks : (old new : List X) (x y : X) → HasGained old x new → (Contains new y → ⊥) → Contains old y → ⊥
+  HasGained-lacks old new x y (inl e) none has = none (rw e has)
+  HasGained-lacks old new x y (inr e) none has = none (rw e (Contains-append_left old (x ∷ []) y has))
 
   pub Extends-trans : (a b c : List X) → Extends a b → Extends b c → Extends a c
   Extends-trans a b c e f = record { kept = λ i x h. f.kept i x (e.kept i x h) }

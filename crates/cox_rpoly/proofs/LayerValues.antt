@@ -33,6 +33,12 @@ module _ {X : Type 0} (of : Naming X) where
       → IsValue of A v x (numbered values i)
   value_at A v layer values i x all a = rw (a.is x) at (all.each i x a.within)
 
+  -- the value of the one element of a layer
+  pub only_value : (A : IntegerMatrix) (v : List ℕ) (x : X) (layer : List X) (values : List (List ℤ)) (p : List ℤ) → layer ≡ x ∷ []
+      → AreLayerValues of A v layer values → p ≡ get_or values 0 p → IsValue of A v x p
+  only_value A v x layer [] p one all is = absurd (omega (arith, all.count, ap length one))
+  only_value A v x layer (q ∷ values) p one all is = rw is ((rw one at all).each 0 x (omega arith))
+
   module _ (A : IntegerMatrix) (g : IsAdmissible A) where
     -- where no letters are left
     pub IsValue-end : SameDescents of A → (x : X) (p : List ℤ) → IsInLayer of A [] x → ((k : ℕ) → coefficient p k ≡ one_polynomial k)

@@ -1,5 +1,5 @@
 -- For code: elements of a group as values of some type X.
-use Rattle.std.specs.Prelude.{◌≡◌, ℕ, ◌≤◌, List, IfOk, IfSome, IsSome, Option, Result}
+use Rattle.std.specs.Prelude.{◌≡◌, ℕ, ◌≤◌, List}
 use Rattle.arrayvec.specs.ArrayVec.{ArrayVec}
 use Rattle.cox_base.specs.IntegerMatrix.{IntegerMatrix}
 use Rattle.cox_base.specs.Bruhat.{IsBelow}
@@ -31,11 +31,3 @@ is_of_heights A u x = AreHeights A u x.values
 -- an element told by its normal form
 abbrev pub is_of_form : IntegerMatrix → List ℕ → ArrayVec ℕ → Type 0
 is_of_form A u x = x.items ≡ normal_form A u
-
--- what holds of the value that was made, where memory was enough and no number overflowed
-abbrev pub IfMade : {T E : Type 0} → Result (Option T) E → (T → Type 0) → Type 0
-IfMade r P = IfOk r (λ o. IfSome o P)
-
--- where memory is enough the value is made
-abbrev pub IsValueMade : {T E : Type 0} → Result (Option T) E → Type 0
-IsValueMade r = IfOk r (λ o. IsSome o)

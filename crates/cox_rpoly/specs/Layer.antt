@@ -1,6 +1,6 @@
 -- For code: layers of elements, their values, and the links of one to the next. Elements are values
 -- of some type X, and `of A u x` says that x is the element of the word u.
-use Rattle.std.specs.Prelude.{◌≡◌, ℕ, ◌+◌, ◌<◌, ◌≤◌, ◌⊎◌, Some, None, List, [], ◌∷◌, ◌++◌, length, slice_index_or, ℤ}
+use Rattle.std.specs.Prelude.{◌≡◌, ℕ, ◌+◌, ◌<◌, ◌≤◌, ◌⊎◌, Some, None, List, [], ◌∷◌, ◌++◌, length, slice_index_or, Contains, ℤ}
 use Rattle.cox_base.specs.IntegerMatrix.{IntegerMatrix}
 use Rattle.cox_base.specs.Length.{word_length}
 use Rattle.cox_base.specs.Descents.{IsLeftDescent}
@@ -19,6 +19,12 @@ pub record IsInLayer {X : Type 0} (of : Naming X) (A : IntegerMatrix) (v : List 
   pub of_word : of A word x
   pub below : IsBelow A word v
   pub near : length v ≤ word_length A word + MAX_DIFFERENCE
+
+-- some element below v is not there
+pub record IsLackedBy {X : Type 0} (of : Naming X) (A : IntegerMatrix) (v : List ℕ) (layer : List X) : Type 0 where
+  pub element : X
+  pub member : IsInLayer of A v element
+  pub lacks : Contains layer element → ⊥
 
 -- p has the coefficients of R(x,v)
 pub record IsValue {X : Type 0} (of : Naming X) (A : IntegerMatrix) (v : List ℕ) (x : X) (p : List ℤ) : Type 0 where

@@ -4,19 +4,31 @@
 //! is R(sx,u), and else it is (q-1) R(x,u) + q R(sx,u), where R(sx,u) is 0 unless sx <= u. So a layer leads to the next by links, which
 //! stay while the elements go, and the values come back by them from the end of the word, where the identity alone is left.
 //! There is no value where a number of an element overflows.
-ghost use Rattle.std.specs.Prelude.{◌≡◌, ◌+◌, ◌≤◌, ◌∷◌, length, IfOk, OnOk, OnErr, IsTrue, All, Contains};
+ghost use Rattle.std.specs.Prelude.{◌≡◌, ℕ, List, ◌+◌, ◌≤◌, [], ◌∷◌, length, IfOk, IfErr, OnOk, OnErr, IsTrue, All, Contains};
 ghost use Rattle.cox_base.specs.Matrix.{IsLetter, IsWord};
+ghost use Rattle.cox_base.specs.Admissible.{IsAdmissible};
 ghost use Rattle.cox_base.specs.IntegerMatrix.{integer_matrix};
+ghost use Rattle.cox_base.specs.Descents.{IsLeftDescent};
 ghost use Rattle.cox_base.specs.Reduced.{IsReduced};
-ghost use Rattle.cox_rpoly.specs.ElementValues.{IfMade, IsValueMade};
-ghost use Rattle.cox_rpoly.specs.Layer.{IsInLayer, AreLayerValues, AreLinks, IsLink, IsAt, HasGained, Extends};
+ghost use Rattle.cox_rpoly.specs.Layer.{IsInLayer, AreLayerValues, AreLinks, IsLink, IsAt, HasGained, Extends, IsLackedBy};
+ghost use Rattle.cox_rpoly.specs.declared.no_value.NoValue.TheVariants.{NoMemory};
 
 use crate::NoMemory;
 use crate::elements::Element;
+use crate::no_value::NoValue;
 use crate::terms::{Link, Terms, ones, terms_of_links};
 use cox_reflect::Words;
 use indexmap::IndexSet;
 use std::alloc::Global;
+
+/// The layer of one element.
+pub(crate) fn layer_of<E: Element>(alloc: Global, x: E) -> Result<IndexSet<E>, NoMemory>
+    ensures { IfOk result (λ layer. layer.keys ≡ x ∷ []) }
+{
+    let mut layer = IndexSet::new(alloc);
+    layer.insert(x)?;
+    Ok(layer)
+}
 
 /// The values R(x,v) for each element x of a layer, v being a reduced word.
 pub(crate) fn values<W: Words, E: Element>(
@@ -24,27 +36,22 @@ pub(crate) fn values<W: Words, E: Element>(
     words: &W,
     form: &[u8],
     layer: IndexSet<E>,
-) -> Result<Option<Vec<Terms>>, NoMemory>
+) -> Result<Vec<Terms>, NoValue>
+    requires admissible { IsAdmissible (integer_matrix (W.matrix words.now)) }
     requires letters { IsWord (W.matrix words.now).rank form.now }
     requires reduced { IsReduced (integer_matrix (W.matrix words.now)) form.now }
     requires short { length form.now ≤ W.longest words.now }
     requires members { All (IsInLayer E.is_of (integer_matrix (W.matrix words.now)) form.now) layer.keys }
-    ensures values { IfMade result (λ values. AreLayerValues E.is_of (integer_matrix (W.matrix words.now)) form.now layer.keys
+    ensures values { IfOk result (λ values. AreLayerValues E.is_of (integer_matrix (W.matrix words.now)) form.now layer.keys
         values.items) }
-    ensures sure { IsTrue E.is_sure → IsValueMade result }
+    ensures sure { IsTrue E.is_sure → IfErr result (λ e. e ≡ NoMemory) }
 {
-    let _rank = words.matrix().rank();
     let Some((&s, rest)) = form.split_first() else {
-        return Ok(Some(ones(alloc, layer.len())?));
+        return ones(alloc, layer.len());
     };
-    let Some((next, links)) = next_layer(alloc, words, s, rest, layer.as_slice())? else {
-        return Ok(None);
-    };
-    drop(layer);
-    let Some(values) = values(alloc, words, rest, next)? else {
-        return Ok(None);
-    };
-    Ok(Some(terms_of_links(alloc, links.as_slice(), values.as_slice())?))
+    let (next, links) = next_layer(alloc, words, s, rest, layer)?;
+    let values = values(alloc, words, rest, next)?;
+    terms_of_links(alloc, links.as_slice(), values.as_slice())
 }
 
 /// The elements for one letter less, and the links of a layer to them.
@@ -53,59 +60,114 @@ fn next_layer<W: Words, E: Element>(
     words: &W,
     s: u8,
     rest: &[u8],
+    layer: IndexSet<E>,
+) -> Result<(IndexSet<E>, Vec<Link>), NoValue>
+    requires admissible { IsAdmissible (integer_matrix (W.matrix words.now)) }
+    requires letter { IsLetter (W.matrix words.now).rank s }
+    requires letters { IsWord (W.matrix words.now).rank rest.now }
+    requires reduced { IsReduced (integer_matrix (W.matrix words.now)) (s ∷ rest.now) }
+    requires short { length rest.now + 1 ≤ W.longest words.now }
+    requires members { All (IsInLayer E.is_of (integer_matrix (W.matrix words.now)) (s ∷ rest.now)) layer.keys }
+    ensures members { IfOk result (λ r. All (IsInLayer E.is_of (integer_matrix (W.matrix words.now)) rest.now) r.0.keys) }
+    ensures links { IfOk result (λ r. AreLinks E.is_of (integer_matrix (W.matrix words.now)) s rest.now layer.keys r.0.keys r.1.items) }
+    ensures sure { IsTrue E.is_sure → IfErr result (λ e. e ≡ NoMemory) }
+{
+    let mut next = IndexSet::new(alloc);
+    let links = links(alloc, words, s, rest, layer.as_slice(), &mut next)?;
+    Ok((next, links))
+}
+
+/// The links of a layer to the next, which has no elements yet.
+fn links<W: Words, E: Element>(
+    alloc: Global,
+    words: &W,
+    s: u8,
+    rest: &[u8],
     layer: &[E],
-) -> Result<Option<(IndexSet<E>, Vec<Link>)>, NoMemory>
+    next: &mut IndexSet<E>,
+) -> Result<Vec<Link>, NoValue>
+    requires admissible { IsAdmissible (integer_matrix (W.matrix words.now)) }
     requires letter { IsLetter (W.matrix words.now).rank s }
     requires letters { IsWord (W.matrix words.now).rank rest.now }
     requires reduced { IsReduced (integer_matrix (W.matrix words.now)) (s ∷ rest.now) }
     requires short { length rest.now + 1 ≤ W.longest words.now }
     requires members { All (IsInLayer E.is_of (integer_matrix (W.matrix words.now)) (s ∷ rest.now)) layer.now }
-    ensures members { IfMade result (λ r. All (IsInLayer E.is_of (integer_matrix (W.matrix words.now)) rest.now) r.0.keys) }
-    ensures links { IfMade result (λ r. AreLinks E.is_of (integer_matrix (W.matrix words.now)) s rest.now layer.now r.0.keys r.1.items) }
-    ensures sure { IsTrue E.is_sure → IsValueMade result }
+    requires none { next.old.keys ≡ [] }
+    ensures members { OnOk result (All (IsInLayer E.is_of (integer_matrix (W.matrix words.now)) rest.now) next.new.keys) }
+    ensures links { IfOk result (λ links. AreLinks E.is_of (integer_matrix (W.matrix words.now)) s rest.now layer.now next.new.keys
+        links.items) }
+    ensures sure { IsTrue E.is_sure → IfErr result (λ e. e ≡ NoMemory) }
 {
-    let mut next = IndexSet::new(alloc);
     let mut links = Vec::new(alloc);
     for x in layer {
-        let Some(link) = link(words, s, rest, x, &mut next)? else {
-            return Ok(None);
+        let link = link(words, s, rest, x, next)?;
+        let Ok(()) = links.push(link) else {
+            return Err(NoValue::NoMemory);
         };
-        links.push(link)?;
     }
-    Ok(Some((next, links)))
+    Ok(links)
 }
 
-/// The link of an element to the next layer, which takes up what the value at x needs.
+/// The link of an element to the next layer, which takes up what the value at x needs. Memory runs out only where it has not all of that.
 fn link<W: Words, E: Element>(
     words: &W,
     s: u8,
     rest: &[u8],
     x: &E,
     next: &mut IndexSet<E>,
-) -> Result<Option<Link>, NoMemory>
+) -> Result<Link, NoValue>
+    requires admissible { IsAdmissible (integer_matrix (W.matrix words.now)) }
     requires letter { IsLetter (W.matrix words.now).rank s }
     requires letters { IsWord (W.matrix words.now).rank rest.now }
     requires reduced { IsReduced (integer_matrix (W.matrix words.now)) (s ∷ rest.now) }
     requires short { length rest.now + 1 ≤ W.longest words.now }
     requires member { IsInLayer E.is_of (integer_matrix (W.matrix words.now)) (s ∷ rest.now) x.now }
     requires members { All (IsInLayer E.is_of (integer_matrix (W.matrix words.now)) rest.now) next.old.keys }
-    ensures members { IfMade result (λ _. All (IsInLayer E.is_of (integer_matrix (W.matrix words.now)) rest.now) next.new.keys) }
-    ensures extends { IfMade result (λ _. Extends next.old.keys next.new.keys) }
-    ensures link { IfMade result (IsLink E.is_of (integer_matrix (W.matrix words.now)) s rest.now x.now next.new.keys) }
-    ensures sure { IsTrue E.is_sure → IsValueMade result }
+    ensures members { OnOk result (All (IsInLayer E.is_of (integer_matrix (W.matrix words.now)) rest.now) next.new.keys) }
+    ensures extends { OnOk result (Extends next.old.keys next.new.keys) }
+    ensures link { IfOk result (IsLink E.is_of (integer_matrix (W.matrix words.now)) s rest.now x.now next.new.keys) }
+    ensures sure { IsTrue E.is_sure → IfErr result (λ e. e ≡ NoMemory) }
+    ensures fault { IfErr result (λ e. e ≡ NoMemory → IsLackedBy E.is_of (integer_matrix (W.matrix words.now)) rest.now next.old.keys) }
 {
-    let _rank = words.matrix().rank();
     let Some(moved) = x.times(words, s, rest) else {
-        return Ok(None);
+        return Err(NoValue::Overflow);
     };
     if x.is_shortened(words, s) {
-        return Ok(Some(Link::Shorter(number(next, moved)?)));
+        return Ok(Link::Shorter(number(next, moved)?));
     }
+    longer_link(words, s, rest, x, moved, next)
+}
+
+/// The same for an element that s doesn't shorten, with s x.
+fn longer_link<W: Words, E: Element>(
+    words: &W,
+    s: u8,
+    rest: &[u8],
+    x: &E,
+    moved: E,
+    next: &mut IndexSet<E>,
+) -> Result<Link, NoValue>
+    requires admissible { IsAdmissible (integer_matrix (W.matrix words.now)) }
+    requires letters { IsWord (W.matrix words.now).rank rest.now }
+    requires reduced { IsReduced (integer_matrix (W.matrix words.now)) (s ∷ rest.now) }
+    requires short { length rest.now + 1 ≤ W.longest words.now }
+    requires member { IsInLayer E.is_of (integer_matrix (W.matrix words.now)) (s ∷ rest.now) x.now }
+    requires members { All (IsInLayer E.is_of (integer_matrix (W.matrix words.now)) rest.now) next.old.keys }
+    requires ascent { (u : List ℕ) → E.is_of (integer_matrix (W.matrix words.now)) u x.now
+        → ¬ IsLeftDescent (integer_matrix (W.matrix words.now)) u s }
+    requires times { (u : List ℕ) → E.is_of (integer_matrix (W.matrix words.now)) u x.now
+        → E.is_of (integer_matrix (W.matrix words.now)) (s ∷ u) moved }
+    ensures members { OnOk result (All (IsInLayer E.is_of (integer_matrix (W.matrix words.now)) rest.now) next.new.keys) }
+    ensures extends { OnOk result (Extends next.old.keys next.new.keys) }
+    ensures link { IfOk result (IsLink E.is_of (integer_matrix (W.matrix words.now)) s rest.now x.now next.new.keys) }
+    ensures sure { IsTrue E.is_sure → IfErr result (λ e. e ≡ NoMemory) }
+    ensures fault { IfErr result (λ e. e ≡ NoMemory → IsLackedBy E.is_of (integer_matrix (W.matrix words.now)) rest.now next.old.keys) }
+{
     let still = number(next, x.copied())?;
     match moved.is_below(words, rest) {
-        None => Ok(None),
-        Some(false) => Ok(Some(Link::Longer(still, None))),
-        Some(true) => Ok(Some(Link::Longer(still, Some(number(next, moved)?)))),
+        None => Err(NoValue::Overflow),
+        Some(false) => Ok(Link::Longer(still, None)),
+        Some(true) => Ok(Link::Longer(still, Some(number(next, moved)?))),
     }
 }
 

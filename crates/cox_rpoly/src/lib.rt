@@ -10,6 +10,7 @@
 //! - `layers`: the values along a reduced word
 //! - `elements`: elements, by heights or by normal forms, and what is asked of them
 //! - `terms`: polynomials of a small degree, and a step of the recursion
+//! - `no_value`: why there are no values along a word
 //! - `r_fault`: why R is not given
 #![tactic(auto)]
 
@@ -18,6 +19,7 @@ use std::alloc::AllocError;
 mod elements;
 pub mod laws;
 mod layers;
+mod no_value;
 mod polynomial;
 mod r_fault;
 pub mod terms;

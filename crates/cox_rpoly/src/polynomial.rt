@@ -1,5 +1,6 @@
 //! R-polynomials of two words.
-ghost use Rattle.std.specs.Prelude.{◌≡◌, ℕ, ◌+◌, ◌≤◌, ◌↔◌, length, Err, IfOk, IsOk, IsTrue};
+ghost use Rattle.std.specs.Prelude.{◌≡◌, ℕ, ◌+◌, ◌≤◌, ◌↔◌, length, Err, IfOk, IfErr, IsOk, IsTrue};
+ghost use Rattle.cox_base.specs.Admissible.{IsAdmissible};
 ghost use Rattle.cox_base.specs.Bruhat.{IsBelow};
 ghost use Rattle.cox_base.specs.IntegerMatrix.{integer_matrix};
 ghost use Rattle.cox_base.specs.Length.{word_length};
@@ -8,17 +9,17 @@ ghost use Rattle.cox_base.specs.Matrix.{IsWord};
 ghost use Rattle.cox_poly.specs.Polynomial.{coefficient, IsPolynomial};
 ghost use Rattle.cox_rpoly.specs.RPolynomial.{r_polynomial};
 ghost use Rattle.cox_rpoly.specs.Recursion.{r_along};
-ghost use Rattle.cox_rpoly.specs.ElementValues.{IfMade, IsValueMade};
+ghost use Rattle.cox_rpoly.specs.declared.no_value.NoValue.TheVariants.{NoMemory};
 ghost use Rattle.cox_rpoly.specs.Depth.{IsDeep};
 
+use crate::MAX_DIFFERENCE;
 use crate::elements::Element;
-use crate::layers::values;
+use crate::layers::{layer_of, values};
+use crate::no_value::NoValue;
 use crate::r_fault::RFault;
-use crate::{MAX_DIFFERENCE, NoMemory};
 use cox_base::Word;
 use cox_poly::Poly;
 use cox_reflect::{Heights, Words};
-use indexmap::IndexSet;
 use std::alloc::Global;
 
 /// R(y,w), for words of at most `words.longest()` letters; it is 0 unless y <= w.
@@ -40,16 +41,36 @@ pub fn r<W: Words>(alloc: Global, words: &W, y: &Word, w: &Word) -> Result<Poly,
     if !words.below(y, w) {
         return Ok(Poly::zero(alloc)?);
     }
+    r_below(alloc, words, y, w)
+}
+
+/// R of two words of elements of which the one is below the other.
+fn r_below<W: Words>(alloc: Global, words: &W, y: &Word, w: &Word) -> Result<Poly, RFault>
+    requires admissible { IsAdmissible (integer_matrix (W.matrix words.now)) }
+    requires letters_y { IsWord (W.matrix words.now).rank y.now.items }
+    requires letters_w { IsWord (W.matrix words.now).rank w.now.items }
+    requires short_y { length y.now.items ≤ W.longest words.now }
+    requires short_w { length w.now.items ≤ W.longest words.now }
+    requires below { IsBelow (integer_matrix (W.matrix words.now)) y.now.items w.now.items }
+    ensures value { IfOk result (λ p. (k : ℕ)
+        → coefficient p k ≡ r_polynomial (integer_matrix (W.matrix words.now)) y.now.items w.now.items k) }
+    ensures normal { IfOk result IsPolynomial }
+    ensures deep { (d : ℕ) → (result ≡ Err (RFault.Deep d)) ↔ IsDeep (integer_matrix (W.matrix words.now)) y.now.items w.now.items d }
+{
     let form = words.normal_form(w);
     let difference = form.len() - words.normal_form(y).len();
     if difference > MAX_DIFFERENCE {
         return Err(RFault::Deep(difference as u32));
     }
-    Ok(along_any(alloc, words, y, form.as_slice())?)
+    match along_any(alloc, words, y, form.as_slice()) {
+        Ok(p) => Ok(p),
+        Err(_) => Err(RFault::NoMemory),
+    }
 }
 
 /// R of an element and that of a reduced word, which is above it: by heights, and where a number overflows by normal forms.
-fn along_any<W: Words>(alloc: Global, words: &W, y: &Word, form: &[u8]) -> Result<Poly, NoMemory>
+fn along_any<W: Words>(alloc: Global, words: &W, y: &Word, form: &[u8]) -> Result<Poly, NoValue>
+    requires admissible { IsAdmissible (integer_matrix (W.matrix words.now)) }
     requires letters_y { IsWord (W.matrix words.now).rank y.now.items }
     requires letters { IsWord (W.matrix words.now).rank form.now }
     requires short_y { length y.now.items ≤ W.longest words.now }
@@ -59,13 +80,12 @@ fn along_any<W: Words>(alloc: Global, words: &W, y: &Word, form: &[u8]) -> Resul
     requires near { length form.now ≤ word_length (integer_matrix (W.matrix words.now)) y.now.items + MAX_DIFFERENCE }
     ensures value { IfOk result (λ p. (k : ℕ) → coefficient p k ≡ r_along (integer_matrix (W.matrix words.now)) y.now.items form.now k) }
     ensures normal { IfOk result IsPolynomial }
+    ensures sure { IfErr result (λ e. e ≡ NoMemory) }
 {
-    if let Some(p) = along::<W, Heights>(alloc, words, y, form)? {
-        return Ok(p);
-    }
-    match along::<W, Word>(alloc, words, y, form)? {
-        Some(p) => Ok(p),
-        None => unreachable!(),
+    match along::<W, Heights>(alloc, words, y, form) {
+        Ok(p) => Ok(p),
+        Err(NoValue::NoMemory) => Err(NoValue::NoMemory),
+        Err(NoValue::Overflow) => along::<W, Word>(alloc, words, y, form),
     }
 }
 
@@ -75,7 +95,8 @@ fn along<W: Words, E: Element>(
     words: &W,
     y: &Word,
     form: &[u8],
-) -> Result<Option<Poly>, NoMemory>
+) -> Result<Poly, NoValue>
+    requires admissible { IsAdmissible (integer_matrix (W.matrix words.now)) }
     requires letters_y { IsWord (W.matrix words.now).rank y.now.items }
     requires letters { IsWord (W.matrix words.now).rank form.now }
     requires short_y { length y.now.items ≤ W.longest words.now }
@@ -83,17 +104,13 @@ fn along<W: Words, E: Element>(
     requires reduced { IsReduced (integer_matrix (W.matrix words.now)) form.now }
     requires below { IsBelow (integer_matrix (W.matrix words.now)) y.now.items form.now }
     requires near { length form.now ≤ word_length (integer_matrix (W.matrix words.now)) y.now.items + MAX_DIFFERENCE }
-    ensures value { IfMade result (λ p. (k : ℕ) → coefficient p k ≡ r_along (integer_matrix (W.matrix words.now)) y.now.items form.now k) }
-    ensures normal { IfMade result IsPolynomial }
-    ensures sure { IsTrue E.is_sure → IsValueMade result }
+    ensures value { IfOk result (λ p. (k : ℕ) → coefficient p k ≡ r_along (integer_matrix (W.matrix words.now)) y.now.items form.now k) }
+    ensures normal { IfOk result IsPolynomial }
+    ensures sure { IsTrue E.is_sure → IfErr result (λ e. e ≡ NoMemory) }
 {
     let Some(x) = E::of_word(words, y) else {
-        return Ok(None);
+        return Err(NoValue::Overflow);
     };
-    let mut layer = IndexSet::new(alloc);
-    layer.insert(x)?;
-    let Some(values) = values(alloc, words, form, layer)? else {
-        return Ok(None);
-    };
-    Ok(Some(Poly::of(alloc, &values[0])?))
+    let values = values(alloc, words, form, layer_of(alloc, x)?)?;
+    Ok(Poly::of(alloc, &values[0])?)
 }

@@ -1,11 +1,13 @@
 //! Polynomials of a degree of at most [`MAX_DIFFERENCE`], by their coefficients from the constant one up, and the values of a layer by
 //! links.
-ghost use Rattle.std.specs.Prelude.{◌≡◌, ℕ, ◌+◌, ◌^◌, ◌<◌, All, IfOk};
+ghost use Rattle.std.specs.Prelude.{◌≡◌, ℕ, ◌+◌, ◌^◌, ◌<◌, All, IfOk, IfErr};
 ghost use Rattle.cox_poly.specs.Coefficients.{zero_polynomial, one_polynomial, plus, times_q, times_q_less_one};
 ghost use Rattle.cox_poly.specs.Polynomial.{coefficient};
+ghost use Rattle.cox_rpoly.specs.declared.no_value.NoValue.TheVariants.{NoMemory};
 ghost use Rattle.cox_rpoly.specs.Terms.{LeavesRoom, IsLinkWithin, linked_value, AreLinkedValues, AreOnes};
 
-use crate::{MAX_DIFFERENCE, NoMemory};
+use crate::MAX_DIFFERENCE;
+use crate::no_value::NoValue;
 use std::alloc::Global;
 
 /// How many coefficients there are.
@@ -40,8 +42,9 @@ fn one() -> Terms
 }
 
 /// So many polynomials 1.
-pub(crate) fn ones(alloc: Global, n: usize) -> Result<Vec<Terms>, NoMemory>
-    ensures { IfOk result (λ values. AreOnes n values.items) }
+pub(crate) fn ones(alloc: Global, n: usize) -> Result<Vec<Terms>, NoValue>
+    ensures ones { IfOk result (λ values. AreOnes n values.items) }
+    ensures fault { IfErr result (λ e. e ≡ NoMemory) }
 {
     let mut values = Vec::new(alloc);
     values.resize(n, one())?;
@@ -53,13 +56,16 @@ pub(crate) fn terms_of_links(
     alloc: Global,
     links: &[Link],
     next: &[Terms],
-) -> Result<Vec<Terms>, NoMemory>
+) -> Result<Vec<Terms>, NoValue>
     requires { All (IsLinkWithin next.now) links.now }
-    ensures { IfOk result (λ values. AreLinkedValues links.now next.now values.items) }
+    ensures values { IfOk result (λ values. AreLinkedValues links.now next.now values.items) }
+    ensures fault { IfErr result (λ e. e ≡ NoMemory) }
 {
     let mut values = Vec::with_capacity(alloc, links.len())?;
     for link in links {
-        values.push(linked(*link, next))?;
+        let Ok(()) = values.push(linked(*link, next)) else {
+            return Err(NoValue::NoMemory);
+        };
     }
     Ok(values)
 }

@@ -1,5 +1,5 @@
 -- The members behind x, one after the other.
-use Rattle.std.proofs.Common.{◌≡◌, ◌+◌, ◌<◌, [], length, refl, ◌∙◌, arith}
+use Rattle.std.proofs.Common.{◌≡◌, suc, ◌+◌, ◌-◌, ◌<◌, [], length, refl, ◌∙◌, arith}
 use Rattle.std.proofs.lemmas.List.{get_or_read}
 use Rattle.cox_base.specs.IntegerMatrix.{integer_matrix}
 use Rattle.cox_context.specs.Numbers.{word_at}
@@ -125,3 +125,20 @@ returns g c =
     c.requires.interval.top_member c.args.interval.now.members.items c.requires.interval.between (length c.args.polynomials.now)
     c.requires.some c.requires.more c.loop-j.sums
     (rw (all, at_x g (goal.at.returns g c).After-index-x) at c.loop-j.invariant.off)
+
+pub loop-j-init : goal.loop-j-init
+loop-j-init g c = record { off = λ _ k. c.clear.ensures k; size = λ k. rw (c.clear.ensures k) (omega arith) }
+
+pub row-requires-clause-member : goal.row-requires-clause-member
+row-requires-clause-member g c = rw c.requires.lower (z_member g (goal.at.row-requires-clause-member g c).After-index-z)
+
+pub row-requires-clause-there : goal.row-requires-clause-there
+row-requires-clause-there g c =
+    let at = (goal.at.row-requires-clause-there g c).After-index-z
+    in rw (at_z g at) (c.requires.rows (length c.args.interval.now.members.items - suc c.loop-j.j) (omega (arith, z_place g at)))
+
+pub polynomial-requires-clause-i : goal.polynomial-requires-clause-i
+polynomial-requires-clause-i g c = z_member g (goal.at.polynomial-requires-clause-i g c).After-index-z
+
+pub polynomial-requires-clause-x : goal.polynomial-requires-clause-x
+polynomial-requires-clause-x g c = x_member g (goal.at.polynomial-requires-clause-x g c).After-index-x

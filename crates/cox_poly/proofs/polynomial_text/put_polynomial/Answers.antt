@@ -1,10 +1,12 @@
 -- The terms so far are put, and at the end all of them are.
 use Rattle.std.proofs.Common.{[], ap, arith, codes, vec_capacity, rules, FitsSigned, w64, of_z}
 use Rattle.std.proofs.lemmas.Int.{ints, to_z-of_z}
+use Rattle.std.proofs.lemmas.Result.{on_err_weaker}
 use Rattle.cox_poly.specs.Polynomial.{coefficient}
 use Rattle.cox_poly.specs.ListedText.{listed_term_text}
 use Rattle.cox_poly.proofs.Behind.{Puts-failed, on_err}
-use Rattle.cox_poly.proofs.Terms.{Written-more, Written-prefix, Written-full, Written-zero, rest_text-term, rest_text-zero}
+use Rattle.cox_poly.proofs.Terms.{Written-more, Written-prefix, Written-full, Written-zero, Written-last, Written-all, rest_text-term}
+use Rattle.cox_poly.proofs.Terms.{rest_text-zero}
 use Rattle.cox_poly.proofs.polynomial_text.put_polynomial.Goals as goal
 use Rattle.cox_poly.proofs.polynomial_text.put_polynomial.Goals.{then-c-ne0+in_ok-put_listed_term, else-c-ne0}
 
@@ -50,7 +52,28 @@ loop-k-preserved c =
       }
     ]
 
-pub returns-in_err-put_text-clause-text : goal.returns-in_err-put_text-clause-text
-returns-in_err-put_text-clause-text c =
-    let split = rest_text-zero c.args.coefficients.now c.loop-k.k c.loop-k.first (search rules) (omega arith) in
-    Puts-failed _ _ _ _ (search rules) (Written-prefix _ (codes "0") [] c.loop-k.invariant.written c.in_err-put_text.ensures.text split)
+pub returns-then-first-clause-text : goal.returns-then-first-clause-text
+returns-then-first-clause-text c =
+    let zero = rest_text-zero c.args.coefficients.now c.loop-k.k c.loop-k.first c.if-first.true (omega arith) in
+    Written-last c.put_text.result _ (codes "0") c.loop-k.invariant.written zero c.put_text.ensures.text
+
+pub returns-then-first-clause-full : goal.returns-then-first-clause-full
+returns-then-first-clause-full c =
+    let zero = rest_text-zero c.args.coefficients.now c.loop-k.k c.loop-k.first c.if-first.true (omega arith) in
+    let before = c.loop-k.invariant.capacity in
+    on_err_weaker c.put_text.result
+    (λ full.
+    let none = Written-full (vec_capacity c.loop-k.out) (codes "0") [] c.loop-k.invariant.written zero
+    (omega (arith, full, c.loop-k.out.ok.0)) in
+    omega (arith, none, before, c.args.out.now.ok.0))
+    c.put_text.ensures.full
+
+pub returns-then-first-clause-capacity : goal.returns-then-first-clause-capacity
+returns-then-first-clause-capacity c = omega (arith, c.put_text.ensures.capacity, c.loop-k.invariant.capacity)
+
+pub returns-else-first-clause-text : goal.returns-else-first-clause-text
+returns-else-first-clause-text c =
+    Written-all c.args.coefficients.now c.loop-k.k c.loop-k.first c.if-first.false (omega arith) c.loop-k.invariant.written
+
+pub returns-else-first-clause-capacity : goal.returns-else-first-clause-capacity
+returns-else-first-clause-capacity c = c.loop-k.invariant.capacity

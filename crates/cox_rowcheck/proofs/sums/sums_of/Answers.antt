@@ -15,10 +15,19 @@ use Rattle.cox_rowcheck.specs.MemberFamily.{family_of}
 use Rattle.cox_rowcheck.specs.Columns.{IsColumn}
 use Rattle.cox_rowcheck.specs.Prefixes.{letters_of}
 use Rattle.cox_rowcheck.proofs.PlacedPolynomials.{family-at}
-use Rattle.cox_rowcheck.proofs.PrefixColumns.{prefix-at, prefixes-kept}
+use Rattle.cox_rowcheck.proofs.PrefixColumns.{prefix-at, prefixes-none, prefixes-kept}
 use Rattle.cox_rowcheck.proofs.ListedMembers.{listed-count, listed-at, listed-member}
-use Rattle.cox_rowcheck.proofs.GrowingSums.{sums-more, sums-grown, sums-reordered}
+use Rattle.cox_rowcheck.proofs.GrowingSums.{sums-none, sums-more, sums-grown, sums-reordered}
 use Rattle.cox_rowcheck.proofs.sums.sums_of.Goals as goal
+
+pub loop-word-init : goal.loop-word-init
+loop-word-init c = record {
+  prefixes = rw (c.new-last.ensures, c.in_ok-push.ensures.items, c.new-stack.ensures.items)
+      (prefixes-none (integer_matrix c.args.ctx.now.matrix) c.args.ctx.now.members c.in_ok-first.field-0 c.in_ok-first.ensures);
+  sums = sums-none (integer_matrix c.args.ctx.now.matrix) c.args.ctx.now.members c.args.polynomials.now c.in_ok-sums.sums.items
+      c.len.result c.len.ensures.len c.in_ok-sums.ensures;
+  small = λ i k. rw ((c.in_ok-sums.ensures {u = tt}).zero i k) (omega arith);
+}
 
 pub climb-requires-clause-member : goal.climb-requires-clause-member
 climb-requires-clause-member c =

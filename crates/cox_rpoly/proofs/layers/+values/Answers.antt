@@ -1,23 +1,24 @@
 -- At the end of the word the identity alone is left; else the links lead on.
-use Rattle.std.proofs.Common.{◌∷◌, arith}
-use Rattle.std.specs.Prelude.{All}
+use Rattle.std.proofs.Common.{List, ◌∷◌, ℤ, Vec, Global, arith}
 use Rattle.std.proofs.lemmas.List.Elements.{All-head, All-tail}
-use Rattle.cox_base.specs.Admissible.{IsAdmissible}
+use Rattle.std.proofs.lemmas.Result.{IfOk-weaker}
 use Rattle.cox_base.specs.IntegerMatrix.{IntegerMatrix, integer_matrix}
 use Rattle.cox_base.specs.Matrix.{IsLetter}
-use Rattle.cox_reflect.proofs.Admissible.{IsAdmissible-integer_matrix}
 use Rattle.cox_reflect.proofs.Lengths.{IsReduced-tail}
-use Rattle.cox_rpoly.specs.Layer.{IsInLayer}
+use Rattle.cox_rpoly.specs.Layer.{AreLayerValues}
+use Rattle.cox_rpoly.specs.Terms.{AreOnes, AreLinkedValues}
 use Rattle.cox_rpoly.proofs.LayerValues.{AreLinks-within, AreLinks-values, AreLayerValues-end}
 use Rattle.cox_rpoly.proofs.layers.+values.Goals as goal
 
 pub returns-in_default-clause-values : goal.returns-in_default-clause-values
 returns-in_default-clause-values g t c =
     let A : IntegerMatrix = integer_matrix (g.W.Words.matrix c.args.words.now)
-    in let p : IsAdmissible A = IsAdmissible-integer_matrix (g.W.Words.matrix c.args.words.now)
-    (rw c.matrix.ensures at c.rank-rank.ensures.matrix)
-    in AreLayerValues-end g.E.Element.is_of A p (g.met.E.Element.same_descents A p) c.args.form.now c.args.layer.keys
-    c.in_ok-ones.field-0.items c.in_default.ensures.cases c.requires.members c.len.ensures.len c.in_ok-ones.ensures
+    in IfOk-weaker c.ones.result (λ (values : Vec (List ℤ) Global). AreOnes c.len.result values.items)
+    (λ (values : Vec (List ℤ) Global). AreLayerValues g.E.Element.is_of A c.args.form.now c.args.layer.keys values.items)
+    (λ values ones. AreLayerValues-end g.E.Element.is_of A c.requires.admissible
+    (g.met.E.Element.same_descents A c.requires.admissible) c.args.form.now c.args.layer.keys values.items
+    c.in_default.ensures.cases c.requires.members c.len.ensures.len ones)
+    c.ones.ensures.ones
 
 pub next_layer-requires-clause-letter : goal.next_layer-requires-clause-letter
 next_layer-requires-clause-letter g t c =
@@ -32,8 +33,6 @@ next_layer-requires-clause-letters g t c =
 pub values-requires : goal.values-requires
 values-requires g t c κs within =
     let A : IntegerMatrix = integer_matrix (g.W.Words.matrix c.args.words.now)
-    in let p : IsAdmissible A = IsAdmissible-integer_matrix (g.W.Words.matrix c.args.words.now)
-    (rw c.matrix.ensures at c.rank-rank.ensures.matrix)
     in (
       omega (arith, c.in-Some.ensures.cases.1),
       (
@@ -41,11 +40,15 @@ values-requires g t c κs within =
         (
           within.1,
           (
-            All-tail (IsLetter (g.W.Words.matrix c.args.words.now).rank) c.in-Some.field-0-0.now c.in-Some.rest.now
-                (rw c.in-Some.ensures.cases.0 at c.requires.letters),
+            c.requires.admissible,
             (
-              IsReduced-tail A p c.in-Some.field-0-0.now c.in-Some.rest.now (rw c.in-Some.ensures.cases.0 at c.requires.reduced),
-              (omega (arith, c.in-Some.ensures.cases.1, c.requires.short), rw c.in-Some-2.is at c.in_ok-next.ensures.members),
+              All-tail (IsLetter (g.W.Words.matrix c.args.words.now).rank) c.in-Some.field-0-0.now c.in-Some.rest.now
+                  (rw c.in-Some.ensures.cases.0 at c.requires.letters),
+              (
+                IsReduced-tail A c.requires.admissible c.in-Some.field-0-0.now c.in-Some.rest.now
+                    (rw c.in-Some.ensures.cases.0 at c.requires.reduced),
+                (omega (arith, c.in-Some.ensures.cases.1, c.requires.short), c.in_ok-next.ensures.members),
+              ),
             ),
           ),
         ),
@@ -55,25 +58,22 @@ values-requires g t c κs within =
 pub terms_of_links-requires : goal.terms_of_links-requires
 terms_of_links-requires g t c =
     let A : IntegerMatrix = integer_matrix (g.W.Words.matrix c.args.words.now)
-    in let p : IsAdmissible A = IsAdmissible-integer_matrix (g.W.Words.matrix c.args.words.now)
-    (rw c.matrix.ensures at c.rank-rank.ensures.matrix)
-    in let members : All (IsInLayer g.E.Element.is_of A (c.in-Some.field-0-0.now ∷ c.in-Some.rest.now)) c.as_slice.result.now
-    = rw c.as_slice.ensures.keys (rw c.in-Some.ensures.cases.0 at c.requires.members)
-    in rw (c.as_slice-2.ensures.value, c.as_slice-3.ensures.value)
-    (AreLinks-within g.E.Element.is_of A p c.in-Some.field-0-0.now c.in-Some.rest.now c.as_slice.result.now c.in-Some-2.next.keys
-    c.in-Some-2.links.items
-    c.in-Some-3.values.items (rw c.in-Some-2.is at c.in_ok-next.ensures.links) (rw c.in-Some-3.is at c.in_ok-values.ensures.values) members)
+    in rw (c.as_slice.ensures.value, c.as_slice-2.ensures.value)
+    (AreLinks-within g.E.Element.is_of A c.requires.admissible c.in-Some.field-0-0.now c.in-Some.rest.now c.args.layer.keys
+    c.in_ok-next.next.keys c.in_ok-next.links.items c.in_ok-values.values.items c.in_ok-next.ensures.links c.in_ok-values.ensures.values
+    (rw c.in-Some.ensures.cases.0 at c.requires.members))
 
 pub returns-clause-values : goal.returns-clause-values
 returns-clause-values g t c =
     let A : IntegerMatrix = integer_matrix (g.W.Words.matrix c.args.words.now)
-    in let p : IsAdmissible A = IsAdmissible-integer_matrix (g.W.Words.matrix c.args.words.now)
-    (rw c.matrix.ensures at c.rank-rank.ensures.matrix)
-    in let reduced = IsReduced-tail A p c.in-Some.field-0-0.now c.in-Some.rest.now (rw c.in-Some.ensures.cases.0 at c.requires.reduced)
-    in let linked = rw (c.as_slice-2.ensures.value, c.as_slice-3.ensures.value) at c.in_ok-terms_of_links.ensures
+    in let reduced = IsReduced-tail A c.requires.admissible c.in-Some.field-0-0.now c.in-Some.rest.now
+    (rw c.in-Some.ensures.cases.0 at c.requires.reduced)
     in rw c.in-Some.ensures.cases.0
-    (rw c.as_slice.ensures.keys at
-    (AreLinks-values g.E.Element.is_of A p c.in-Some.field-0-0.now c.in-Some.rest.now c.as_slice.result.now c.in-Some-2.next.keys
-    c.in-Some-2.links.items
-    c.in-Some-3.values.items (rw c.in-Some-2.is at c.in_ok-next.ensures.links) (rw c.in-Some-3.is at c.in_ok-values.ensures.values)
-    c.in_ok-terms_of_links.field-0.items reduced linked))
+    (IfOk-weaker c.terms_of_links.result
+    (λ (values : Vec (List ℤ) Global). AreLinkedValues c.as_slice.result.now c.as_slice-2.result.now values.items)
+    (λ (values : Vec (List ℤ) Global). AreLayerValues g.E.Element.is_of A (c.in-Some.field-0-0.now ∷ c.in-Some.rest.now) c.args.layer.keys
+    values.items)
+    (λ values linked. AreLinks-values g.E.Element.is_of A c.requires.admissible c.in-Some.field-0-0.now c.in-Some.rest.now c.args.layer.keys
+    c.in_ok-next.next.keys c.in_ok-next.links.items c.in_ok-values.values.items c.in_ok-next.ensures.links c.in_ok-values.ensures.values
+    values.items reduced (rw (c.as_slice.ensures.value, c.as_slice-2.ensures.value) at linked))
+    c.terms_of_links.ensures.values)

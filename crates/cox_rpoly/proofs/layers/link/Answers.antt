@@ -1,99 +1,38 @@
--- What the link says is what the calls ensure; each element that is taken up is a member.
+-- Where s shortens x, s x is a member of the next layer.
 use Rattle.std.proofs.Common.{sym, ◌∙◌}
 use Rattle.std.proofs.lemmas.Bool.{false≢true}
-use Rattle.cox_base.specs.Admissible.{IsAdmissible}
 use Rattle.cox_base.specs.IntegerMatrix.{IntegerMatrix, integer_matrix}
-use Rattle.cox_reflect.proofs.Admissible.{IsAdmissible-integer_matrix}
-use Rattle.cox_reflect.proofs.Lengths.{IsReduced-tail}
 use Rattle.cox_rpoly.specs.Layer.{IsInLayer}
-use Rattle.cox_rpoly.proofs.LayerMembers.{HasGained-All, HasGained-Extends, Extends-trans, IsInLayer-shorter, IsInLayer-still}
-use Rattle.cox_rpoly.proofs.LayerMembers.{IsInLayer-times}
-use Rattle.cox_rpoly.proofs.LayerMembers.{IsShortElement-member, IsShortElement-times}
+use Rattle.cox_rpoly.proofs.LayerMembers.{if_err, HasGained-All, HasGained-Extends, IsInLayer-shorter, IsShortElement-member}
 use Rattle.cox_rpoly.proofs.layers.link.Goals as goal
 
 pub is_shortened-requires-clause-short : goal.is_shortened-requires-clause-short
 is_shortened-requires-clause-short g c =
     let A : IntegerMatrix = integer_matrix (g.W.Words.matrix c.args.words.now)
-    in let p : IsAdmissible A = IsAdmissible-integer_matrix (g.W.Words.matrix c.args.words.now)
-    (rw c.matrix.ensures at c.rank-rank.ensures.matrix)
-    in IsShortElement-member g.E.Element.is_of A p c.args.s c.args.rest.now c.args.x.now (g.W.Words.longest c.args.words.now)
-    c.requires.reduced
-    c.requires.short c.requires.member
+    in IsShortElement-member g.E.Element.is_of A c.requires.admissible c.args.s c.args.rest.now c.args.x.now
+    (g.W.Words.longest c.args.words.now) c.requires.reduced c.requires.short c.requires.member
 
 pub returns-then-is_shortened-clause-members : goal.returns-then-is_shortened-clause-members
 returns-then-is_shortened-clause-members g c =
     let A : IntegerMatrix = integer_matrix (g.W.Words.matrix c.args.words.now)
-    in let p : IsAdmissible A = IsAdmissible-integer_matrix (g.W.Words.matrix c.args.words.now)
-    (rw c.matrix.ensures at c.rank-rank.ensures.matrix)
     in HasGained-All (IsInLayer g.E.Element.is_of A c.args.rest.now) c.args.next.now.keys c.number.new.layer.keys c.in-Some.moved
     c.in_ok-number.ensures.grown c.requires.members
-    (IsInLayer-shorter g.E.Element.is_of A p c.args.s c.args.rest.now c.args.x.now c.in-Some.moved c.requires.reduced c.requires.member
-    (λ u e. (c.is_shortened.ensures u e).0 c.if-is_shortened.true) c.in-Some.ensures.times)
+    (IsInLayer-shorter g.E.Element.is_of A c.requires.admissible c.args.s c.args.rest.now c.args.x.now c.in-Some.moved
+    c.requires.reduced c.requires.member (λ u e. (c.is_shortened.ensures u e).0 c.if-is_shortened.true) c.in-Some.ensures.times)
 
 pub returns-then-is_shortened-clause-extends : goal.returns-then-is_shortened-clause-extends
 returns-then-is_shortened-clause-extends g c =
     HasGained-Extends c.args.next.now.keys c.number.new.layer.keys c.in-Some.moved c.in_ok-number.ensures.grown
 
-pub is_below-requires-clause-reduced : goal.is_below-requires-clause-reduced
-is_below-requires-clause-reduced g c =
+pub returns-in_err-number-clause-fault : goal.returns-in_err-number-clause-fault
+returns-in_err-number-clause-fault g c =
     let A : IntegerMatrix = integer_matrix (g.W.Words.matrix c.args.words.now)
-    in let p : IsAdmissible A = IsAdmissible-integer_matrix (g.W.Words.matrix c.args.words.now)
-    (rw c.matrix.ensures at c.rank-rank.ensures.matrix)
-    in IsReduced-tail A p c.args.s c.args.rest.now c.requires.reduced
+    in if_err c.from_residual.result (λ e _. record {
+      element = c.in-Some.moved;
+      member = IsInLayer-shorter g.E.Element.is_of A c.requires.admissible c.args.s c.args.rest.now c.args.x.now c.in-Some.moved
+          c.requires.reduced c.requires.member (λ u e. (c.is_shortened.ensures u e).0 c.if-is_shortened.true) c.in-Some.ensures.times;
+      lacks = c.in_err-number.ensures.fault;
+    })
 
-pub is_below-requires-clause-short : goal.is_below-requires-clause-short
-is_below-requires-clause-short g c =
-    let A : IntegerMatrix = integer_matrix (g.W.Words.matrix c.args.words.now)
-    in let p : IsAdmissible A = IsAdmissible-integer_matrix (g.W.Words.matrix c.args.words.now)
-    (rw c.matrix.ensures at c.rank-rank.ensures.matrix)
-    in IsShortElement-times g.E.Element.is_of A p c.args.s c.args.rest.now c.args.x.now c.in-Some.moved (g.W.Words.longest c.args.words.now)
-    c.requires.reduced c.requires.short c.requires.member
-    (λ u e d. absurd (false≢true (sym c.if-is_shortened.false ∙ (c.is_shortened.ensures u e).1 d))) c.in-Some.ensures.times
-
-pub returns-in-Some-false-clause-members : goal.returns-in-Some-false-clause-members
-returns-in-Some-false-clause-members g c =
-    let A : IntegerMatrix = integer_matrix (g.W.Words.matrix c.args.words.now)
-    in let p : IsAdmissible A = IsAdmissible-integer_matrix (g.W.Words.matrix c.args.words.now)
-    (rw c.matrix.ensures at c.rank-rank.ensures.matrix)
-    in HasGained-All (IsInLayer g.E.Element.is_of A c.args.rest.now) c.args.next.now.keys c.number-2.new.layer.keys c.args.x.now
-    (rw c.copied.ensures at c.in_ok-still.ensures.grown) c.requires.members
-    (IsInLayer-still g.E.Element.is_of A p c.args.s c.args.rest.now c.args.x.now c.requires.reduced c.requires.member
-    (λ u e d. absurd (false≢true (sym c.if-is_shortened.false ∙ (c.is_shortened.ensures u e).1 d))))
-
-pub returns-in-Some-false-clause-extends : goal.returns-in-Some-false-clause-extends
-returns-in-Some-false-clause-extends g c =
-    HasGained-Extends c.args.next.now.keys c.number-2.new.layer.keys c.args.x.now (rw c.copied.ensures at c.in_ok-still.ensures.grown)
-
-pub returns-in_ok-number-in-Some-true-clause-members : goal.returns-in_ok-number-in-Some-true-clause-members
-returns-in_ok-number-in-Some-true-clause-members g c =
-    let A : IntegerMatrix = integer_matrix (g.W.Words.matrix c.args.words.now)
-    in let p : IsAdmissible A = IsAdmissible-integer_matrix (g.W.Words.matrix c.args.words.now)
-    (rw c.matrix.ensures at c.rank-rank.ensures.matrix)
-    in let still = HasGained-All (IsInLayer g.E.Element.is_of A c.args.rest.now) c.args.next.now.keys c.number-2.new.layer.keys c.args.x.now
-    (rw c.copied.ensures at c.in_ok-still.ensures.grown) c.requires.members
-    (IsInLayer-still g.E.Element.is_of A p c.args.s c.args.rest.now c.args.x.now c.requires.reduced c.requires.member
-    (λ u e d. absurd (false≢true (sym c.if-is_shortened.false ∙ (c.is_shortened.ensures u e).1 d))))
-    in HasGained-All (IsInLayer g.E.Element.is_of A c.args.rest.now) c.number-2.new.layer.keys c.number-in-Some-true.new.layer.keys
-    c.in-Some.moved
-    c.in_ok-number-in-Some-true.ensures.grown still
-    (IsInLayer-times g.E.Element.is_of A p c.args.s c.args.rest.now c.args.x.now c.in-Some.moved c.requires.member
-    (λ u e d. absurd (false≢true (sym c.if-is_shortened.false ∙ (c.is_shortened.ensures u e).1 d))) c.in-Some.ensures.times
-    (λ u e. (c.in-Some-true.ensures.below u e).0 c.in-Some-true.field-0-test))
-
-pub returns-in_ok-number-in-Some-true-clause-extends : goal.returns-in_ok-number-in-Some-true-clause-extends
-returns-in_ok-number-in-Some-true-clause-extends g c =
-    Extends-trans c.args.next.now.keys c.number-2.new.layer.keys c.number-in-Some-true.new.layer.keys
-    (HasGained-Extends c.args.next.now.keys c.number-2.new.layer.keys c.args.x.now (rw c.copied.ensures at c.in_ok-still.ensures.grown))
-    (HasGained-Extends c.number-2.new.layer.keys c.number-in-Some-true.new.layer.keys c.in-Some.moved
-    c.in_ok-number-in-Some-true.ensures.grown)
-
-pub returns-in_ok-number-in-Some-true-clause-link : goal.returns-in_ok-number-in-Some-true-clause-link
-returns-in_ok-number-in-Some-true-clause-link g c = (
-  record {
-    ascent = λ u e d. absurd (false≢true (sym c.if-is_shortened.false ∙ (c.is_shortened.ensures u e).1 d));
-    at = (HasGained-Extends c.number-2.new.layer.keys c.number-in-Some-true.new.layer.keys c.in-Some.moved
-        c.in_ok-number-in-Some-true.ensures.grown).kept
-        c.in_ok-still.still c.args.x.now (rw c.copied.ensures at c.in_ok-still.ensures.at);
-  },
-  record { moved = c.in-Some.moved; moves = c.in-Some.ensures.times; at = c.in_ok-number-in-Some-true.ensures.at },
-)
+pub longer_link-requires-clause-ascent : goal.longer_link-requires-clause-ascent
+longer_link-requires-clause-ascent g c = λ u e d. absurd (false≢true (sym c.if-is_shortened.false ∙ (c.is_shortened.ensures u e).1 d))

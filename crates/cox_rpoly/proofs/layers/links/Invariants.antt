@@ -3,7 +3,7 @@ use Rattle.cox_base.specs.IntegerMatrix.{integer_matrix}
 use Rattle.std.proofs.Common.{take}
 use Rattle.std.specs.Prelude.{All}
 use Rattle.cox_rpoly.specs.Layer.{IsInLayer, AreLinks}
-use Rattle.cox_rpoly.proofs.layers.next_layer.Given as goal
+use Rattle.cox_rpoly.proofs.layers.links.Given as goal
 
 abbrev pub invariant-loop-x : goal.invariant-loop-x
 invariant-loop-x g l = record {
