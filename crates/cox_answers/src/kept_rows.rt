@@ -1,5 +1,5 @@
 //! The rows that are kept of a group, and what is known of all of them.
-ghost use Rattle.std.specs.Prelude.{◌≡◌, ℕ, ◌<◌, ◌≤◌, length, None, IsTrue, IfSome, IfOk, IsSomeAnd};
+ghost use Rattle.std.specs.Prelude.{◌≡◌, ℕ, ◌<◌, ◌≤◌, length, None, IsTrue, IsSome, IfSome, IfOk, IsSomeAnd, ◌↔◌};
 ghost use Rattle.std.specs.Borrow.{sem};
 ghost use Rattle.cox_base.specs.Matrix.{IsWord};
 ghost use Rattle.cox_base.specs.IntegerMatrix.{integer_matrix};
@@ -95,6 +95,7 @@ impl KeptRows {
             → AreKept table.now limits self.old → IsRefused (RefusesLargeOr limits (integer_matrix table.now) w.now.items ⊥) None)) }
         ensures number { IfSome result (λ number. IfOk number
             (λ i. IsSomeAnd self.new (HoldsElement (integer_matrix table.now) w.now.items i))) }
+        ensures there { IsSome result ↔ IsSome self.old }
     {
         let known = self.whole;
         let Some(rows) = self.change() else {

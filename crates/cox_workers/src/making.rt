@@ -1,6 +1,11 @@
 //! One row, and those that it is made from.
 ghost use Rattle.std.specs.Prelude.{◌≡◌, ◌≢◌, ◌<◌, length, OnOk, OnErr, IfOk, IfErr};
-ghost use Rattle.cox_klstep.specs.NeedsOf.{HasNeeds};
+ghost use Rattle.cox_base.specs.IntegerMatrix.{integer_matrix};
+ghost use Rattle.cox_context.specs.Numbers.{word_at};
+ghost use Rattle.cox_row_builder.specs.Faults.{IsFault};
+ghost use Rattle.cox_row_symmetry.specs.DescentOf.{IsDescentAt};
+ghost use Rattle.cox_klstep.specs.NeedsOf.{AreNeeds, HasNeeds};
+ghost use Rattle.cox_klstep.specs.TablesOf.{AreTables};
 ghost use Rattle.cox_claims.specs.Knowledge.{TriesClaim, Publishes};
 ghost use Rattle.cox_claims.specs.Seats.{view_of, splits_of, IsSameSeat, Holds, HoldsBeyond, HasSeen, HasSeenVoid, HasSeenClaimed, Reads};
 ghost use Rattle.cox_fill_core.specs.declared.event.RowState.{RowState};
@@ -10,12 +15,14 @@ ghost use Rattle.cox_row.specs.Within.{IsRowWithin};
 ghost use Rattle.cox_row_store.specs.Stores.{limit_of, IsSeat};
 
 use crate::missing::Missing;
+use crate::read_rows::ReadRows;
 use crate::worker_context::WorkerContext;
 use crate::worker_scratch::WorkerScratch;
-use cox_klstep::{Descent, RowStart, begin_row, needs};
+use cox_klstep::{Descent, RowStart, StepFault, Steps, Tables, begin_row, needs};
 use cox_outside::{Gate, Point};
 use cox_row::{LowerRows, Row};
 use cox_row_store::{Claimed, RowState, Seat};
+use std::alloc::AllocError;
 use std::mem;
 use std::sync::Wait;
 use std::thread::Threads;
@@ -23,7 +30,7 @@ use std::thread::Threads;
 impl<'a> WorkerContext<'a> {
     ghost use Rattle.cox_workers.specs.Ready.{IsWorkerReady, IsWorkFor};
     ghost use Rattle.cox_workers.specs.SeatChanges.{HoldsFrom, IsSeatKept, VoidsNone, IsRowMissing, IsUnmade};
-    ghost use Rattle.cox_workers.specs.RowsRead.{IsRead};
+    ghost use Rattle.cox_workers.specs.RowsRead.{IsRead, AreReadRows};
 
     /// Sees to it that the row of the member with the number i is Published, with those that it is made from.
     ///
@@ -136,31 +143,40 @@ impl<'a> WorkerContext<'a> {
     {
         let budget = self.take_in(rt, gate, seat, scratch, i)?;
         self.gather(rt, seat, scratch, i, budget);
-        let start = begin_row(
-            self.alloc,
-            self.context,
-            i,
+        let row = self.made_from(
+            rt,
             &scratch.rows,
             &mut scratch.tables,
+            &mut scratch.steps,
+            i,
         )?;
-        match start {
+        Ok(row)
+    }
+
+    /// The row of the member with the number i, made from the rows that are read.
+    fn made_from<R: Threads + Sync>(
+        &self,
+        rt: &R,
+        rows: &ReadRows<'a>,
+        tables: &mut Tables,
+        steps: &mut Steps,
+        i: u32,
+    ) -> Result<Row, StepFault>
+        requires rows { AreReadRows self.now.context.now (limit_of self.now.store.now) rows.now }
+        requires tables { AreTables self.now.context.now tables.old }
+        requires member { i < length self.now.context.now.members }
+        requires needs { HasNeeds self.now.context.now (IsRead rows.now) i }
+        ensures row { IfOk result (IsRowAt self.now.context.now i) }
+        ensures within { IfOk result (IsRowWithin (limit_of self.now.store.now)) }
+        ensures fault { let e = self.now.context.now in
+            IfErr result (IsFault (integer_matrix e.matrix) e.members (limit_of self.now.store.now) (λ w. w ≡ i)) }
+        ensures tables { AreTables self.now.context.now tables.new }
+    {
+        match begin_row(self.alloc, self.context, i, rows, tables)? {
             RowStart::Done(row) => Ok(row),
             RowStart::Planned(plan) => {
-                let found = plan.find_together(
-                    rt,
-                    self.threads,
-                    self.alloc,
-                    self.context,
-                    &scratch.tables,
-                );
-                let row = plan.finish(
-                    self.alloc,
-                    self.context,
-                    &mut scratch.tables,
-                    found,
-                    &mut scratch.steps,
-                )?;
-                Ok(row)
+                let found = plan.find_together(rt, self.threads, self.alloc, self.context, tables);
+                plan.finish(self.alloc, self.context, tables, found, steps)
             }
         }
     }
@@ -190,15 +206,37 @@ impl<'a> WorkerContext<'a> {
         }
         let descent = Descent::of(self.context, i);
         self.obtain(rt, gate, seat, scratch, descent.lower)?;
-        let mut corrections = mem::replace(&mut scratch.corrections, Vec::new(self.alloc));
-        let lower = scratch.rows.row(descent.lower);
-        needs(self.context, &descent, lower, &mut corrections)?;
+        let corrections = self.corrections_of(&descent, &scratch.rows, &mut scratch.corrections)?;
         'corrections: for &u in corrections.iter() {
             self.obtain(rt, gate, seat, scratch, u)?;
         }
         let count = corrections.len();
         scratch.corrections = corrections;
         Ok(count)
+    }
+
+    /// Lists the corrections of the step by a descent, where the row of the shorter element is read. The list is the one that was kept, and
+    /// an empty one takes its place.
+    pub(crate) fn corrections_of(
+        &self,
+        descent: &Descent,
+        rows: &ReadRows<'a>,
+        kept: &mut Vec<u32>,
+    ) -> Result<Vec<u32>, AllocError>
+        requires rows { AreReadRows self.now.context.now (limit_of self.now.store.now) rows.now }
+        requires descent { IsDescentAt self.now.context.now descent.now }
+        requires lower { IsRead rows.now descent.now.lower }
+        ensures { let e = self.now.context.now in IfOk result (λ numbers. AreNeeds (integer_matrix e.matrix) e.members descent.now.letter
+            (word_at e.members descent.now.member) numbers.items) }
+    {
+        let mut corrections = mem::replace(kept, Vec::new(self.alloc));
+        needs(
+            self.context,
+            descent,
+            rows.row(descent.lower),
+            &mut corrections,
+        )?;
+        Ok(corrections)
     }
 
     /// Reads the row of the member with the number u, after those that it is made from.

@@ -5,11 +5,9 @@ ghost use Rattle.cox_row.specs.Rising.{number_at};
 
 use crate::worker_context::WorkerContext;
 use crate::worker_scratch::WorkerScratch;
-use cox_klstep::{Descent, needs};
+use cox_klstep::Descent;
 use cox_outside::Gate;
-use cox_row::LowerRows;
 use cox_row_store::{RowState, Seat};
-use std::mem;
 use std::sync::Wait;
 use std::thread::Threads;
 
@@ -50,9 +48,8 @@ impl<'a> WorkerContext<'a> {
         if !self.take_published(rt, seat, scratch, descent.lower) {
             return None;
         }
-        let mut corrections = mem::replace(&mut scratch.corrections, Vec::new(self.alloc));
-        let lower = scratch.rows.row(descent.lower);
-        let Ok(()) = needs(self.context, &descent, lower, &mut corrections) else {
+        let Ok(corrections) = self.corrections_of(&descent, &scratch.rows, &mut scratch.corrections)
+        else {
             return None;
         };
         let count = corrections.len();

@@ -1,19 +1,24 @@
 //! The rows of the elements between two, among those that a session keeps.
-ghost use Rattle.std.specs.Prelude.{◌≡◌, ℕ, ◌<◌, ◌≤ℤ◌, pos, length, IsTrue, IfSome, IfErr, OnOk};
+ghost use Rattle.std.specs.Prelude.{◌≡◌, ℕ, ◌<◌, ◌≤ℤ◌, pos, List, length, Ok, IsTrue, IsSomeAnd, IfSome, IfErr, OnOk};
+ghost use Rattle.cox_base.specs.Matrix.{CoxeterMatrix};
 ghost use Rattle.cox_base.specs.IntegerMatrix.{integer_matrix};
 ghost use Rattle.cox_context.specs.Numbers.{word_at};
 ghost use Rattle.cox_row.specs.Rising.{number_at, AreWithin};
 ghost use Rattle.cox_rows.specs.Beyond.{IsBeyond, NeedsBeyond};
 ghost use Rattle.cox_rows.specs.Holding.{HasRow};
-ghost use Rattle.cox_answers.specs.Kept.{IsMore};
-ghost use Rattle.cox_answers.specs.KeptBetween.{IsFaultOfOne, IsReadOff};
+ghost use Rattle.cox_replies.specs.Limits.{Limits};
+ghost use Rattle.cox_replies.specs.Listed.{RefusesLargeOr};
+ghost use Rattle.cox_answers.specs.Kept.{AreKept, Keeps, IsMore};
+ghost use Rattle.cox_answers.specs.KeptBetween.{RefusesBetween, HoldsEnds, HoldsBetween, IsFaultOfOne, IsReadOff};
 ghost use Rattle.cox_replies.specs.InverseReply.{inverse_limit};
 
+use crate::faults::unless_fault;
 use crate::needs::Ends;
 use crate::row_maker::RowMaker;
 use cox_context::Context;
-use cox_inverse::{LongestElement, MAX_COEFFICIENT};
+use cox_inverse::{Interval, LongestElement, MAX_COEFFICIENT};
 use cox_klstep::StepFault;
+use cox_replies::Unanswered;
 use cox_rows::Rows;
 use std::alloc::Global;
 
@@ -73,6 +78,32 @@ pub fn inverse_limit(limit: i64) -> i64
     limit.min(MAX_COEFFICIENT)
 }
 
+/// Makes sure that the rows of the members between the two with these numbers are kept, and returns these numbers. If there is no memory
+/// for a list of those members, nothing is kept any more.
+pub fn keep_rows_between<M: RowMaker>(
+    maker: &M,
+    alloc: Global,
+    kept: &mut Option<Rows>,
+    ends: Ends,
+) -> Result<Ends, Unanswered>
+    requires low { IsSomeAnd kept.old (λ rows. ends.low < length rows.elements.members) }
+    requires high { IsSomeAnd kept.old (λ rows. ends.high < length rows.elements.members) }
+    requires ready { M.ready maker.now }
+    ensures kept { (g : CoxeterMatrix) (limits : Limits) → AreKept g limits kept.old → AreKept g limits kept.new }
+    ensures rows { (g : CoxeterMatrix) (limits : Limits) (y w : List ℕ) → AreKept g limits kept.old
+        → Keeps (Ok ends) (RefusesLargeOr limits (integer_matrix g) w ⊥) (HoldsEnds (integer_matrix g) y w) kept.old
+        → Keeps result (RefusesBetween limits (integer_matrix g) y w) (HoldsBetween (integer_matrix g) y w) kept.new }
+{
+    let Some(rows) = kept.take() else {
+        unreachable!();
+    };
+    let between = Interval::between(alloc, rows.context(), ends.low, ends.high)?;
+    let mut rows = with_rows(alloc, rows, maker, between.members.as_slice());
+    let made = ensure_each(&mut rows, between.members.as_slice());
+    *kept = Some(rows);
+    unless_fault(made, ends)
+}
+
 /// The same rows, and maybe more: those of the members with these numbers are asked for, unless all of them are there.
 pub fn with_rows<M: RowMaker>(alloc: Global, rows: Rows, maker: &M, numbers: &[u32]) -> Rows
     requires members { AreWithin (length rows.elements.members) numbers.now }
@@ -86,7 +117,7 @@ pub fn with_rows<M: RowMaker>(alloc: Global, rows: Rows, maker: &M, numbers: &[u
 }
 
 /// Makes the rows of the members with these numbers that are not there, and those that they need.
-pub fn ensure_each(rows: &mut Rows, numbers: &[u32]) -> Result<(), StepFault>
+fn ensure_each(rows: &mut Rows, numbers: &[u32]) -> Result<(), StepFault>
     requires { AreWithin (length rows.old.elements.members) numbers.now }
     ensures same { IsMore rows.old rows.new }
     ensures there { OnOk result ((k : ℕ) → k < length numbers.now → HasRow rows.new (number_at numbers.now k)) }

@@ -14,7 +14,7 @@ ghost use Rattle.cox_replies.specs.RowReply.{RefusesRow};
 ghost use Rattle.cox_answers.specs.Kept.{AreKept, HoldsElement, HoldsRow, HoldsAll, IsSameWorkspace, Keeps};
 ghost use Rattle.cox_answers.specs.KeptBetween.{RefusesBetween, HoldsEnds, HoldsBetween};
 
-use crate::answers::between::{ensure_each, is_large, with_rows};
+use crate::answers::between::{is_large, keep_rows_between};
 use crate::answers::kept::{add_interval, keep_interval, widen, with_row};
 use crate::answers::kept_group::{keep_elements, with_all};
 use crate::answers::prefetch::{is_on_interval, with_asked};
@@ -25,7 +25,6 @@ use crate::row_maker::RowMaker;
 use crate::workspace::Workspace;
 use cox_base::{MAX_RANK, Word};
 use cox_command::Inquiry;
-use cox_inverse::Interval;
 use cox_replies::Unanswered;
 use std::alloc::{AllocError, Global};
 
@@ -170,16 +169,9 @@ impl Workspace {
             return Ok(ends);
         }
         let ends = self.make_group_if_many(maker, alloc, y, w, ends)?;
-        let kept = self.kept.change();
-        let Some(rows) = kept.take() else {
-            unreachable!();
-        };
-        let between = Interval::between(alloc, rows.context(), ends.low, ends.high)?;
-        let mut rows = with_rows(alloc, rows, maker, between.members.as_slice());
-        let made = ensure_each(&mut rows, between.members.as_slice());
-        *kept = Some(rows);
+        let made = keep_rows_between(maker, alloc, self.kept.change(), ends);
         self.kept.find_whole_group();
-        unless_fault(made, ends)
+        made
     }
 
     /// Makes the rows of the whole group, if there are many members between y and w, and the group is finite. If these rows are refused, it

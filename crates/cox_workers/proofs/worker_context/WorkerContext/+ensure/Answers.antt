@@ -1,5 +1,6 @@
 -- The worker's steps.
 use Rattle.std.proofs.Common.{◌≡◌, ◌<◌, ◌≤◌, ⊎_elim, refl, ap, ◌∙◌, subst, rules, arith}
+use borrow.Author.Count.{below_none}
 use Rattle.std.proofs.lemmas.Bool.{cases_lt}
 use Rattle.std.specs.Prelude.{IfErr}
 use Rattle.cox_row_symmetry.proofs.LowerMembers.{lower-before}
@@ -53,39 +54,26 @@ ensure-returns-in-Err-clause-missing g t c =
 
 -- ---- the rows that a row is made from
 
-pub made-begin_row-requires-clause-needs : goal.made-begin_row-requires-clause-needs
-made-begin_row-requires-clause-needs g t c =
+pub made-made_from-requires-clause-needs : goal.made-made_from-requires-clause-needs
+made-made_from-requires-clause-needs g t c = λ _ _.
     needs-map c.args.self.now.context.now (IsRead c.take_in.new.scratch.rows) (IsRead c.gather.new.scratch.rows) c.args.i
     c.gather.ensures.work.rows
     c.in_ok-budget.ensures.needs
 
-pub made-returns-in-Done-clause-needs : goal.made-returns-in-Done-clause-needs
-made-returns-in-Done-clause-needs g t c =
+pub made-returns-clause-needs : goal.made-returns-clause-needs
+made-returns-clause-needs g t c =
     needs-map c.args.self.now.context.now (IsRead c.take_in.new.scratch.rows) (HasSeen c.gather.new.seat) c.args.i
     (λ j on. c.gather.ensures.work.ready.seen j (c.gather.ensures.work.rows j on)) c.in_ok-budget.ensures.needs
 
-pub made-returns-in_ok-row-in-Planned-clause-needs : goal.made-returns-in_ok-row-in-Planned-clause-needs
-made-returns-in_ok-row-in-Planned-clause-needs g t c =
-    needs-map c.args.self.now.context.now (IsRead c.take_in.new.scratch.rows) (HasSeen c.gather.new.seat) c.args.i
-    (λ j on. c.gather.ensures.work.ready.seen j (c.gather.ensures.work.rows j on)) c.in_ok-budget.ensures.needs
-
-pub made-returns-in-Done-clause-work : goal.made-returns-in-Done-clause-work
-made-returns-in-Done-clause-work g t c =
-    work-tables c.begin_row.new.tables c.gather.new.scratch.steps c.begin_row.ensures.tables
+pub made-returns-clause-work : goal.made-returns-clause-work
+made-returns-clause-work g t c =
+    work-tables c.made_from.new.tables c.made_from.new.steps c.made_from.ensures.tables
     (work-trans c.take_in.ensures.work c.gather.ensures.work)
 
-pub made-returns-in_ok-row-in-Planned-clause-work : goal.made-returns-in_ok-row-in-Planned-clause-work
-made-returns-in_ok-row-in-Planned-clause-work g t c =
-    work-tables c.finish.new.tables c.finish.new.steps c.finish.ensures.tables (work-trans c.take_in.ensures.work c.gather.ensures.work)
-
-pub made-returns-in_err-start-clause-work : goal.made-returns-in_err-start-clause-work
-made-returns-in_err-start-clause-work g t c =
-    work-tables c.begin_row.new.tables c.gather.new.scratch.steps c.begin_row.ensures.tables
+pub made-returns-in_err-row-clause-work : goal.made-returns-in_err-row-clause-work
+made-returns-in_err-row-clause-work g t c =
+    work-tables c.made_from.new.tables c.made_from.new.steps c.made_from.ensures.tables
     (work-trans c.take_in.ensures.work c.gather.ensures.work)
-
-pub made-returns-in_err-row-in-Planned-clause-work : goal.made-returns-in_err-row-in-Planned-clause-work
-made-returns-in_err-row-in-Planned-clause-work g t c =
-    work-tables c.finish.new.tables c.finish.new.steps c.finish.ensures.tables (work-trans c.take_in.ensures.work c.gather.ensures.work)
 
 -- ---- one row that is read
 
@@ -162,12 +150,12 @@ take_in-returns-in_err-obtain-clause-work g t c =
     c.of-descent.ensures.number
     in work-needed c.len-len.ensures.admissible needed c.obtain.ensures.work
 
-pub take_in-returns-in_err-needs-clause-work : goal.take_in-returns-in_err-needs-clause-work
-take_in-returns-in_err-needs-clause-work g t c =
+pub take_in-returns-in_err-corrections-clause-work : goal.take_in-returns-in_err-corrections-clause-work
+take_in-returns-in_err-corrections-clause-work g t c =
     let e = c.args.self.now.context.now in
     let needed = lower-needed_at e c.len-len.ensures.admissible c.len-len.ensures.closed c.of-descent.result c.of-descent.ensures.descent
     c.of-descent.ensures.number
-    in work-list c.replace-corrections.new.dest (work-needed c.len-len.ensures.admissible needed c.obtain.ensures.work)
+    in work-list c.corrections_of.new.kept (work-needed c.len-len.ensures.admissible needed c.obtain.ensures.work)
 
 pub take_in-returns-in_err-obtain-clause-missing : goal.take_in-returns-in_err-obtain-clause-missing
 take_in-returns-in_err-obtain-clause-missing g t c =
@@ -181,10 +169,10 @@ take_in-returns-in_err-obtain-clause-missing g t c =
     c.obtain.new.seat
     c.from_residual.result needed refl why
 
-pub take_in-returns-in_err-needs-clause-missing : goal.take_in-returns-in_err-needs-clause-missing
-take_in-returns-in_err-needs-clause-missing g t c =
+pub take_in-returns-in_err-corrections-clause-missing : goal.take_in-returns-in_err-corrections-clause-missing
+take_in-returns-in_err-corrections-clause-missing g t c =
     unmade_err c.args.self.now.context.now (limit_of c.args.self.now.store.now) c.args.i c.args.seat.now c.obtain.new.seat
-    c.from_residual-in_err-needs.result c.from_residual-in_err-needs.ensures.1
+    c.from_residual-in_err-corrections.result c.from_residual-in_err-corrections.ensures.1
 
 -- ---- the corrections
 
@@ -192,10 +180,10 @@ pub take_in-obtain-requires-in-corrections : goal.take_in-obtain-requires-in-cor
 take_in-obtain-requires-in-corrections g t c = λ κs outlives.
     let before = correction-before_at _
     c.len-len.ensures.admissible c.len-len.ensures.closed c.of-descent.result c.of-descent.ensures.descent c.of-descent.ensures.number
-    c.deref-u-items.ensures.value c.in_ok-needs.ensures c.corrections-test.true in
+    c.deref-u-items.ensures.value c.in_ok-corrections.ensures c.corrections-test.true in
     let needed = correction-needed_at _
     c.len-len.ensures.admissible c.len-len.ensures.closed c.of-descent.result c.of-descent.ensures.descent c.of-descent.ensures.number
-    c.deref-u-items.ensures.value c.in_ok-needs.ensures c.corrections-test.true
+    c.deref-u-items.ensures.value c.in_ok-corrections.ensures c.corrections-test.true
     in (
       omega (arith, before, c.decreases),
       (
@@ -223,28 +211,29 @@ take_in-corrections-init g t c =
     let needed = lower-needed_at e c.len-len.ensures.admissible c.len-len.ensures.closed c.of-descent.result c.of-descent.ensures.descent
     c.of-descent.ensures.number
     in record {
-      work = work-list c.replace-corrections.new.dest (work-needed c.len-len.ensures.admissible needed c.obtain.ensures.work);
+      work = work-list c.corrections_of.new.kept (work-needed c.len-len.ensures.admissible needed c.obtain.ensures.work);
       none = c.in_ok-obtain.ensures.here.1;
       stay = λ j on. on;
-      taken = λ k l. absurd (omega (arith, l));
+      taken = below_none (λ k. IsRead c.obtain.new.scratch.rows (number_at c.deref-u-items.result.now k));
     }
 
 pub take_in-returns-in_err-obtain-2-clause-work : goal.take_in-returns-in_err-obtain-2-clause-work
 take_in-returns-in_err-obtain-2-clause-work g t c =
     let needed = correction-needed_at _
     c.len-len.ensures.admissible c.len-len.ensures.closed c.of-descent.result c.of-descent.ensures.descent c.of-descent.ensures.number
-    c.deref-u-items.ensures.value c.in_ok-needs.ensures c.corrections-test.true
-    in work-trans c.corrections.invariant.work (work-needed c.len-len.ensures.admissible needed c.obtain-in-corrections.ensures.work)
+    c.deref-u-items.ensures.value c.in_ok-corrections.ensures c.corrections-test.true
+    in work-trans {worker = c.args.self.now} {i = c.args.i} c.corrections.invariant.work
+    (work-needed {worker = c.args.self.now} {i = c.args.i} c.len-len.ensures.admissible needed c.obtain-in-corrections.ensures.work)
 
 pub take_in-corrections-preserved : goal.take_in-corrections-preserved
 take_in-corrections-preserved g t c =
     let items = c.deref-u-items.result.now in
     let needed = correction-needed_at _
     c.len-len.ensures.admissible c.len-len.ensures.closed c.of-descent.result c.of-descent.ensures.descent c.of-descent.ensures.number
-    c.deref-u-items.ensures.value c.in_ok-needs.ensures c.corrections-test.true
-    in let more = work-needed c.len-len.ensures.admissible needed c.obtain-in-corrections.ensures.work
+    c.deref-u-items.ensures.value c.in_ok-corrections.ensures c.corrections-test.true
+    in let more = work-needed {worker = c.args.self.now} {i = c.args.i} c.len-len.ensures.admissible needed c.obtain-in-corrections.ensures.work
     in record {
-      work = work-trans c.corrections.invariant.work more;
+      work = work-trans {worker = c.args.self.now} {i = c.args.i} c.corrections.invariant.work more;
       none = c.in_ok-obtain-2.ensures.here.1 ∙ c.corrections.invariant.none;
       stay = λ j on. more.rows j (c.corrections.invariant.stay j on);
       taken = λ k l. ⊎_elim (λ (less : k < c.corrections.u-index). more.rows (number_at items k) (c.corrections.invariant.taken k less))
@@ -261,7 +250,7 @@ take_in-returns-in_err-obtain-2-clause-missing g t c =
     let u = number_at c.deref-u-items.result.now c.corrections.u-index in
     let needed = correction-needed_at _
     c.len-len.ensures.admissible c.len-len.ensures.closed c.of-descent.result c.of-descent.ensures.descent c.of-descent.ensures.number
-    c.deref-u-items.ensures.value c.in_ok-needs.ensures c.corrections-test.true
+    c.deref-u-items.ensures.value c.in_ok-corrections.ensures c.corrections-test.true
     in let why : IfErr c.from_residual-in_err-obtain-2.result (IsRowMissing e limit u c.corrections.seat c.obtain-in-corrections.new.seat) =
     search rules
     in unmade_by-needed e c.len-len.ensures.admissible limit c.args.i u c.args.seat.now c.corrections.seat c.obtain-in-corrections.new.seat
@@ -276,7 +265,7 @@ take_in-returns-clause-needs g t c =
     let d = c.of-descent.result in
     let items = c.deref-u-items.result.now in
     let are : AreNeeds (integer_matrix e.matrix) e.members d.letter (word_at e.members d.member) items =
-    rw c.deref-u-items.ensures.value c.in_ok-needs.ensures in
+    rw c.deref-u-items.ensures.value c.in_ok-corrections.ensures in
     rw c.of-descent.ensures.number at
     (listed-needs e (IsRead c.corrections.scratch.rows) d items c.len-len.ensures.admissible c.len-len.ensures.closed
     c.of-descent.ensures.descent are

@@ -89,13 +89,12 @@ supply-returns-then-not-take_published-clause-work g t c =
     c.of-descent.ensures.number c.provide-first.ensures.work)
     (c.take_published.ensures.work c.args.i)
 
-pub supply-needs-requires-clause-lower : goal.supply-needs-requires-clause-lower
-supply-needs-requires-clause-lower g t c =
-    rw (c.take_published.ensures.work c.args.i).ready.rows.elements at c.row-lower.ensures.row
+pub supply-corrections_of-requires-clause-rows : goal.supply-corrections_of-requires-clause-rows
+supply-corrections_of-requires-clause-rows g t c = (c.take_published.ensures.work c.args.i).ready.rows
 
 pub supply-returns-in_default-clause-work : goal.supply-returns-in_default-clause-work
 supply-returns-in_default-clause-work g t c =
-    work-list c.replace-corrections.new.dest (work-trans
+    work-list c.corrections_of.new.kept (work-trans
     (work-lower c.len-len.ensures.admissible c.len-len.ensures.closed c.of-descent.result c.of-descent.ensures.descent
     c.of-descent.ensures.number c.provide-first.ensures.work)
     (c.take_published.ensures.work c.args.i))
@@ -103,7 +102,7 @@ supply-returns-in_default-clause-work g t c =
 pub supply-corrections-init : goal.supply-corrections-init
 supply-corrections-init g t c =
     record {
-      work = work-list c.replace-corrections.new.dest (work-trans
+      work = work-list c.corrections_of.new.kept (work-trans
           (work-lower c.len-len.ensures.admissible c.len-len.ensures.closed c.of-descent.result c.of-descent.ensures.descent
           c.of-descent.ensures.number c.provide-first.ensures.work)
           (c.take_published.ensures.work c.args.i));
