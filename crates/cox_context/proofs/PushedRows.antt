@@ -17,7 +17,7 @@ use Rattle.cox_context.specs.Closed.{IsClosed}
 use Rattle.cox_context.specs.Numbers.{word_at}
 use Rattle.cox_context.specs.Numbering.{IsNumberOf}
 use Rattle.cox_base.specs.Descents.{IsLeftDescent, IsRightDescent}
-use Rattle.cox_context.specs.Sets.{IsLoweringSet}
+use Rattle.cox_context.specs.Sets.{IsLoweringSet, AreLoweringSets}
 use Rattle.cox_context.specs.Contexts.{AreTables, AreTablesOfOthers}
 use Rattle.cox_context.specs.Inverses.{AreKeptInverses, AreInversesOfOthers}
 use Rattle.cox_context.specs.Shifts.{entry, AreLeftShifts, AreRightShifts, AreOfOthers, AreSets}
@@ -223,3 +223,13 @@ module _ (A : IntegerMatrix) (g : IsAdmissible A) (all : List (List ℕ)) (close
       in let place : n ≡ length h.others = omega (arith, last, count)
       in rw h.is (tables-more A g h.others h.last (rw h.is at closed) right left_sets right_sets inverses new_left new_right new_inverses x z
       h.tables (rw h.is at left_shifts) (rw h.is at size) (rw h.is at shifts) (rw place at x_is) (rw place at z_is) (rw h.is at kept))
+
+-- one lowering set more
+pub lowering-push : (rank : ℕ) (table : List ℕ) (i : ℕ) (sets : List ℕ) (x : ℕ) → AreLoweringSets rank table i sets
+    → IsLoweringSet rank table i (rank + 1) x → AreLoweringSets rank table (i + 1) (sets ++ x ∷ [])
+lowering-push rank table i sets x h is = record {
+  size = omega (arith, h.size, push-length sets x);
+  each = λ k l. ⊎_elim (λ (less : k < length sets). rw (push-old sets x 0 k less) (h.each k (omega (arith, less, h.size))))
+      (λ (e : k ≡ length sets). let f : k ≡ i = omega (arith, e, h.size) in rw (push-new sets x 0 k e, f) is)
+      (push_cases sets x k (omega (arith, l, h.size, push-length sets x)));
+}

@@ -1,5 +1,6 @@
 -- One member more, which is listed and marked.
 use Rattle.std.proofs.Common.{rules, ◌≡◌, ◌∷◌, ◌++◌, [], true, arith, refl, ap}
+use Rattle.cox_lemmas.proofs.PushedItems.{push-length}
 use Rattle.cox_base.specs.IntegerMatrix.{integer_matrix}
 use Rattle.cox_base.specs.ShortLex.{normal_form}
 use Rattle.cox_context.specs.Closed.{Elements}
@@ -41,3 +42,10 @@ returns-clause-found c =
     in let listed : c.push_reserved.new.self.items ≡ numbers ++ c.len-number.result ∷ [] = search rules
     in rw (members, listed, c.len-number.ensures.len) (was_added (λ t. c.requires.next.none (listed-member words marks numbers h y t))
     (listed-next words marks numbers h y))
+
+pub returns-clause-few : goal.returns-clause-few
+returns-clause-few c =
+    let words = c.args.context.now.members
+    in let y = normal_form (integer_matrix c.args.context.now.matrix) (c.args.s ∷ word_at words c.args.j)
+    in let added : c.append.new.self ≡ record { matrix = c.args.context.now.matrix; members = words ++ y ∷ [] } = search rules
+    in rw added (omega (arith, push-length words y, c.if-number-limit.false, c.len-number.ensures.len))

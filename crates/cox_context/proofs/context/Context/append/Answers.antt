@@ -1,8 +1,13 @@
 -- One member more, with what is kept of it in each table.
-use Rattle.std.proofs.Common.{◌<◌, length, arith}
+use Rattle.std.proofs.Common.{◌<◌, ℕ, List, length, arith}
+use Rattle.cox_lemmas.proofs.PushedItems.{push-length}
 use Rattle.cox_context.specs.declared.members.TheConstants.{MAX_MEMBERS}
 use Rattle.cox_context.specs.Appending.{IsNextMember}
 use Rattle.cox_context.proofs.context.Context.append.Goals as goal
+
+pub push-requires-clause-some : goal.push-requires-clause-some
+push-requires-clause-some c =
+    rw c.in_ok-append.ensures.members (omega (arith, push-length {X = List ℕ}, c.self.invariant.closed.some))
 
 pub invariant_of-self-2 : goal.invariant_of-self-2
 invariant_of-self-2 c =
