@@ -221,8 +221,9 @@ module _ (A : IntegerMatrix) (g : IsAdmissible A) (all : List (List ℕ)) (close
   tables-push new_left new_right new_inverses x z n last left_shifts size shifts x_is z_is kept =
       let count = ap (λ (l : List (List ℕ)). length l) h.is ∙ push-length h.others h.last
       in let place : n ≡ length h.others = omega (arith, last, count)
-      in rw h.is (tables-more A g h.others h.last (rw h.is at closed) right left_sets right_sets inverses new_left new_right new_inverses x z
-      h.tables (rw h.is at left_shifts) (rw h.is at size) (rw h.is at shifts) (rw place at x_is) (rw place at z_is) (rw h.is at kept))
+      in rw h.is (tables-more A g h.others h.last (rw h.is at closed) right left_sets right_sets inverses new_left new_right new_inverses
+      x z h.tables (rw h.is at left_shifts) (rw h.is at size) (rw h.is at shifts)
+      (rw place at x_is) (rw place at z_is) (rw h.is at kept))
 
 -- one lowering set more
 pub lowering-push : (rank : ℕ) (table : List ℕ) (i : ℕ) (sets : List ℕ) (x : ℕ) → AreLoweringSets rank table i sets
