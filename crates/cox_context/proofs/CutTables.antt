@@ -106,11 +106,13 @@ module _ (A : IntegerMatrix) (words : List (List ℕ)) (closed : IsClosed A word
       empty cut = record {
         closed = first;
         left_shifts = left-cut left new_left left_is h.left_shifts;
-        right_size = rw count right_is.size;
-        right_shifts = right-cut right new_right right_is h.right_size h.right_shifts;
-        left_bits = sets-cut (IsLeftDescent A) left_sets h.left_bits;
-        right_bits = sets-cut (IsRightDescent A) right_sets h.right_bits;
+        tables = record {
+          right_size = rw count right_is.size;
+          right_shifts = right-cut right new_right right_is h.tables.right_size h.tables.right_shifts;
+          left_bits = sets-cut (IsLeftDescent A) left_sets h.tables.left_bits;
+          right_bits = sets-cut (IsRightDescent A) right_sets h.tables.right_bits;
+          kept_inverses = inverses-cut inverses new_inverses empty cut h.tables.kept_inverses;
+        };
         left_narrow = λ k l. absurd (omega (arith, l));
         right_narrow = λ k l. absurd (omega (arith, l));
-        kept_inverses = inverses-cut inverses new_inverses empty cut h.kept_inverses;
       }

@@ -176,3 +176,9 @@ module _ (A : IntegerMatrix) (g : IsAdmissible A) where
         before t j l m =
             let e : t ≡ 1 = omega (arith, l.from_one, l.to_rank)
             in rw e (h.kept.inverses.inverse j m (omega (arith, m, h.kept.size some)))
+
+-- the others are all but one
+pub others-count : (A : IntegerMatrix) (words : List (List ℕ)) (table : List ℕ) → AreInversesOfOthers A words table → 0 < length table
+    → (n : ℕ) → n + 1 ≡ length words → length table ≡ n
+others-count A words table h some n last =
+    omega (arith, h.kept.size some, last, ap (λ (l : List (List ℕ)). length l) h.is, push-length h.others h.last)

@@ -1,9 +1,10 @@
 -- Tables of shifts with two bytes an entry: what their entries say, and that the numbers of few members fit.
 use Rattle.std.proofs.Common.{◌≡◌, ℕ, zero, suc, ◌+◌, ◌-◌, ◌*◌, ◌/◌, ◌%◌, ◌<◌, ◌≤◌, List, length, get_or, Option, None, Some, refl}
-use Rattle.std.proofs.Common.{arith}
+use Rattle.std.proofs.Common.{arith, [], ◌∷◌, ◌++◌, slice_index, ⊎_elim}
 use Rattle.std.specs.Prelude.{EachIndex, IfSome}
 use Rattle.std.proofs.Math.Nat.{div-lt_iff_lt-mul}
 use Rattle.std.proofs.lemmas.Bool.{ne_eqb, eq-eqb}
+use Rattle.cox_lemmas.proofs.PushedItems.{push-old, push-new, push_cases}
 use Rattle.cox_base.specs.Matrix.{IsLetter}
 use Rattle.cox_base.specs.IntegerMatrix.{IntegerMatrix}
 use Rattle.cox_context.specs.declared.shifts.TheConstants.{NO_NARROW_MEMBER}
@@ -60,3 +61,9 @@ right-small A members table few size shifts = λ k l.
     in rw at_place.place at
     (number-small members _ _ few
     (shifts.shift (k % A.rank + 1) (k / A.rank) at_place.letter at_place.member (rw (at_place.place) l)))
+
+-- one entry more
+pub narrow-push : (table narrow : List ℕ) (x : ℕ) → AreNarrow table narrow
+    → narrow_number x ≡ entry_number (slice_index table (length narrow)) → AreNarrow table (narrow ++ x ∷ [])
+narrow-push table narrow x h is = λ k l. ⊎_elim (λ (less : k < length narrow). rw (push-old narrow x 0 k less) (h k less))
+    (λ (e : k ≡ length narrow). rw (push-new narrow x 0 k e, e) is) (push_cases narrow x k l)

@@ -17,9 +17,9 @@ use Rattle.cox_context.specs.Closed.{IsClosed}
 use Rattle.cox_context.specs.Numbers.{word_at}
 use Rattle.cox_context.specs.Numbering.{IsNumberOf}
 use Rattle.cox_base.specs.Descents.{IsLeftDescent, IsRightDescent}
-use Rattle.cox_context.specs.Sets.{IsLoweringSet}
-use Rattle.cox_context.specs.Contexts.{IsContext}
-use Rattle.cox_context.specs.Inverses.{AreKeptInverses}
+use Rattle.cox_context.specs.Sets.{IsLoweringSet, AreLoweringSets}
+use Rattle.cox_context.specs.Contexts.{AreTables, AreTablesOfOthers}
+use Rattle.cox_context.specs.Inverses.{AreKeptInverses, AreInversesOfOthers}
 use Rattle.cox_context.specs.Shifts.{entry, AreLeftShifts, AreRightShifts, AreOfOthers, AreSets}
 use Rattle.cox_context.specs.Rows.{IsRowPushed}
 use Rattle.cox_context.proofs.PlacedWords.{placed-contains, word_at-old, word_at-new}
@@ -175,32 +175,62 @@ sets-push P words y sets x h bit = record {
       (push_cases words y i l);
 }
 
--- ---- a context with one member more
+-- ---- the tables with one member more
 
 module _ (A : IntegerMatrix) (g : IsAdmissible A) (words : List (List ℕ)) (y : List ℕ) (closed : IsClosed A (words ++ y ∷ [])) where
-  pub context-push : (left right left_sets right_sets narrow_left narrow_right inverses new_left new_right new_inverses : List ℕ) (x z : ℕ)
-      → IsContext A words left right left_sets right_sets narrow_left narrow_right inverses → AreLeftShifts A (words ++ y ∷ []) new_left
+  tables-more : (right left_sets right_sets inverses new_left new_right new_inverses : List ℕ) (x z : ℕ)
+      → AreTables A words right left_sets right_sets inverses → AreLeftShifts A (words ++ y ∷ []) new_left
       → length new_right ≡ length (words ++ y ∷ []) * A.rank → AreRightShifts A (words ++ y ∷ []) new_right
       → IsLoweringSet A.rank new_left (length words) (A.rank + 1) x → IsLoweringSet A.rank new_right (length words) (A.rank + 1) z
       → AreKeptInverses A (words ++ y ∷ []) new_inverses
-      → IsContext A (words ++ y ∷ []) new_left new_right (left_sets ++ x ∷ []) (right_sets ++ z ∷ []) [] [] new_inverses
-  context-push left right left_sets right_sets narrow_left narrow_right inverses new_left new_right new_inverses x z h left_shifts size
-      shifts x_is z_is kept = record {
-        closed = closed;
-        left_shifts = left_shifts;
-        right_size = size;
-        right_shifts = shifts;
-        left_bits = sets-push (IsLeftDescent A) words y left_sets x h.left_bits
-            (λ k. rw here at (left-set A g (words ++ y ∷ []) closed new_left (length words) x inside left_shifts x_is k));
-        right_bits = sets-push (IsRightDescent A) words y right_sets z h.right_bits
-            (λ k. rw here at (right-set A g (words ++ y ∷ []) closed new_right (length words) z inside size shifts z_is k));
-        left_narrow = λ k l. absurd (omega (arith, l));
-        right_narrow = λ k l. absurd (omega (arith, l));
-        kept_inverses = kept;
-      }
+      → AreTables A (words ++ y ∷ []) new_right (left_sets ++ x ∷ []) (right_sets ++ z ∷ []) new_inverses
+  tables-more right left_sets right_sets inverses new_left new_right new_inverses x z h left_shifts size shifts x_is z_is kept = record {
+    right_size = size;
+    right_shifts = shifts;
+    left_bits = sets-push (IsLeftDescent A) words y left_sets x h.left_bits
+        (λ k. rw here at (left-set A g (words ++ y ∷ []) closed new_left (length words) x inside left_shifts x_is k));
+    right_bits = sets-push (IsRightDescent A) words y right_sets z h.right_bits
+        (λ k. rw here at (right-set A g (words ++ y ∷ []) closed new_right (length words) z inside size shifts z_is k));
+    kept_inverses = kept;
+  }
     where
       inside : length words < length (words ++ y ∷ [])
       inside = omega (arith, push-length words y)
 
       here : word_at (words ++ y ∷ []) (length words) ≡ y
       here = word_at-new words y (length words) refl
+
+module _ (A : IntegerMatrix) (g : IsAdmissible A) (all : List (List ℕ)) (closed : IsClosed A all)
+    (right left_sets right_sets inverses : List ℕ) (h : AreTablesOfOthers A all right left_sets right_sets inverses) where
+  pub right-others : AreOfOthers A all right
+  right-others = record {
+    others = h.others;
+    last = h.last;
+    is = h.is;
+    size = h.tables.right_size;
+    shifts = h.tables.right_shifts;
+  }
+
+  pub inverses-others : AreInversesOfOthers A all inverses
+  inverses-others = record { others = h.others; last = h.last; is = h.is; kept = h.tables.kept_inverses }
+
+  pub tables-push : (new_left new_right new_inverses : List ℕ) (x z n : ℕ) → n + 1 ≡ length all → AreLeftShifts A all new_left
+      → length new_right ≡ length all * A.rank → AreRightShifts A all new_right
+      → IsLoweringSet A.rank new_left n (A.rank + 1) x → IsLoweringSet A.rank new_right n (A.rank + 1) z
+      → AreKeptInverses A all new_inverses → AreTables A all new_right (left_sets ++ x ∷ []) (right_sets ++ z ∷ []) new_inverses
+  tables-push new_left new_right new_inverses x z n last left_shifts size shifts x_is z_is kept =
+      let count = ap (λ (l : List (List ℕ)). length l) h.is ∙ push-length h.others h.last
+      in let place : n ≡ length h.others = omega (arith, last, count)
+      in rw h.is (tables-more A g h.others h.last (rw h.is at closed) right left_sets right_sets inverses new_left new_right new_inverses
+      x z h.tables (rw h.is at left_shifts) (rw h.is at size) (rw h.is at shifts)
+      (rw place at x_is) (rw place at z_is) (rw h.is at kept))
+
+-- one lowering set more
+pub lowering-push : (rank : ℕ) (table : List ℕ) (i : ℕ) (sets : List ℕ) (x : ℕ) → AreLoweringSets rank table i sets
+    → IsLoweringSet rank table i (rank + 1) x → AreLoweringSets rank table (i + 1) (sets ++ x ∷ [])
+lowering-push rank table i sets x h is = record {
+  size = omega (arith, h.size, push-length sets x);
+  each = λ k l. ⊎_elim (λ (less : k < length sets). rw (push-old sets x 0 k less) (h.each k (omega (arith, less, h.size))))
+      (λ (e : k ≡ length sets). let f : k ≡ i = omega (arith, e, h.size) in rw (push-new sets x 0 k e, f) is)
+      (push_cases sets x k (omega (arith, l, h.size, push-length sets x)));
+}

@@ -135,17 +135,60 @@ impl Found {
         ensures refused { IfErr result (IsOverfull (Contains (context.old.members ++ normal_form (integer_matrix context.old.matrix)
             (s ∷ word_at context.old.members (slice_index self.old.numbers.items place)) ∷ [])) limit) }
     {
-        let number = context.len();
         let x = self.numbers[place];
-        if let Some(k) = context.left(s, x) {
-            if !self.marks[k as usize] {
-                if self.numbers.push(k).is_err() {
-                    return Err(ContextFault::NoMemory);
-                }
-                self.marks[k as usize] = true;
-            }
+        match context.left(s, x) {
+            Some(k) => self.list(context, k),
+            None => self.append(context, s, x, limit),
+        }
+    }
+
+    /// Puts a member behind the others in the list, if it is not there.
+    fn list(&mut self, context: &Context, k: u32) -> Result<(), ContextFault>
+        requires member { k < length context.now.members }
+        requires marked { AreMarked context.now.members self.old.marks.items self.old.numbers.items }
+        ensures marked { OnOk result (AreMarked context.now.members self.new.marks.items self.new.numbers.items) }
+        ensures found { OnOk result (IsFound (word_at context.now.members k)
+            (listed_words context.now.members self.old.numbers.items) (listed_words context.now.members self.new.numbers.items)) }
+        ensures fault { IfErr result (λ fault. fault ≡ ContextFault.NoMemory) }
+    {
+        let _count = context.len();
+        if self.marks[k as usize] {
             return Ok(());
         }
+        if self.numbers.push(k).is_err() {
+            return Err(ContextFault::NoMemory);
+        }
+        self.marks[k as usize] = true;
+        Ok(())
+    }
+
+    /// Appends s x, for the member x with the number j, to the members and to the list, if the limit admits one more.
+    ///
+    /// Room is made in the list first, so that it has each new member.
+    fn append(
+        &mut self,
+        context: &mut Context,
+        s: u8,
+        j: u32,
+        limit: u32,
+    ) -> Result<(), ContextFault>
+        requires letter { IsLetter context.old.matrix.rank s }
+        requires member { j < length context.old.members }
+        requires limit { limit ≤ MAX_MEMBERS }
+        requires room { length context.old.members ≤ limit }
+        requires marked { AreMarked context.old.members self.old.marks.items self.old.numbers.items }
+        requires next { IsNextMember context.old.matrix context.old.members s j }
+        ensures matrix { context.new.matrix ≡ context.old.matrix }
+        ensures members { IsGrownBy (normal_form (integer_matrix context.old.matrix) (s ∷ word_at context.old.members j))
+            context.old.members context.new.members }
+        ensures few { length context.new.members ≤ limit }
+        ensures marked { OnOk result (AreMarked context.new.members self.new.marks.items self.new.numbers.items) }
+        ensures found { OnOk result (IsFound (normal_form (integer_matrix context.old.matrix) (s ∷ word_at context.old.members j))
+            (listed_words context.old.members self.old.numbers.items) (listed_words context.new.members self.new.numbers.items)) }
+        ensures refused { IfErr result (IsOverfull (Contains (context.old.members
+            ++ normal_form (integer_matrix context.old.matrix) (s ∷ word_at context.old.members j) ∷ [])) limit) }
+    {
+        let number = context.len();
         if number >= limit {
             return Err(ContextFault::Size {
                 limit,
@@ -154,7 +197,7 @@ impl Found {
         }
         if self.numbers.reserve(1).is_err()
             || self.marks.reserve(1).is_err()
-            || context.append(s, x).is_err()
+            || context.append(s, j).is_err()
         {
             return Err(ContextFault::NoMemory);
         }

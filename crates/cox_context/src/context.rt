@@ -21,12 +21,11 @@ mod look_ups;
 
 use crate::ContextFault;
 use crate::builder::{Builder, Listing};
-use crate::descents::lowering_sets;
 use crate::inverses::inverses;
 use crate::members::MAX_MEMBERS;
-use crate::right_shifts::right_shifts;
 use crate::scope::Scope;
 use crate::shifts::{MAX_NARROW_MEMBERS, narrowed};
+use crate::tables::Tables;
 use cox_base::{Coxeter, MAX_LETTERS, Side, Word};
 use cox_minroots::RootTable;
 use cox_reflect::{LETTERS_OF_128_BITS, descents, normal_form};
@@ -43,14 +42,10 @@ use std::marker::Model;
 pub struct Context {
     group: Coxeter,
     listing: Listing,
-    right: Vec<u32>,
-    left_descents: Vec<u16>,
-    right_descents: Vec<u16>,
+    tables: Tables,
     // the shifts in two bytes each, where they are kept so
     narrow_left: Vec<u16>,
     narrow_right: Vec<u16>,
-    // the number of each member's inverse, where they are kept
-    inverses: Vec<u32>,
 }
 
 impl Model for Context {
@@ -62,8 +57,8 @@ impl Model for Context {
 
     ghost view = { λ c. record { matrix = c.group; members = c.listing.members } };
 
-    ghost invariant = { λ c. IsContext (integer_matrix c.group) c.listing.members c.listing.left.items c.right.items c.left_descents.items
-        c.right_descents.items c.narrow_left.items c.narrow_right.items c.inverses.items };
+    ghost invariant = { λ c. IsContext (integer_matrix c.group) c.listing.members c.listing.left.items c.tables.right.items
+        c.tables.left_descents.items c.tables.right_descents.items c.narrow_left.items c.narrow_right.items c.tables.inverses.items };
 }
 
 impl Context {
@@ -180,25 +175,15 @@ impl Context {
         ensures made { IfOk result (λ c. c ≡ record { matrix = group; members = listing.members }) }
         ensures fault { IfErr result (λ fault. fault ≡ ContextFault.NoMemory) }
     {
-        let Ok(right) = right_shifts(alloc, &listing.shifts(&group)) else {
-            return Err(ContextFault::NoMemory);
-        };
-        let (rank, count) = (group.rank(), listing.members.len());
-        let Ok(left_descents) = lowering_sets(alloc, listing.left.as_slice(), rank, count) else {
-            return Err(ContextFault::NoMemory);
-        };
-        let Ok(right_descents) = lowering_sets(alloc, right.as_slice(), rank, count) else {
+        let Ok(tables) = Tables::new(alloc, &group, &listing) else {
             return Err(ContextFault::NoMemory);
         };
         Ok(Context {
             group,
             listing,
-            right,
-            left_descents,
-            right_descents,
+            tables,
             narrow_left: Vec::new(alloc),
             narrow_right: Vec::new(alloc),
-            inverses: Vec::new(alloc),
         })
     }
 
@@ -213,7 +198,7 @@ impl Context {
             return Ok(());
         }
         let narrow_left = narrowed(alloc, self.listing.left.as_slice())?;
-        let narrow_right = narrowed(alloc, self.right.as_slice())?;
+        let narrow_right = narrowed(alloc, self.tables.right.as_slice())?;
         self.narrow_left = narrow_left;
         self.narrow_right = narrow_right;
         Ok(())
@@ -226,8 +211,8 @@ impl Context {
         ensures { self.new ≡ self.old }
     {
         let shifts = self.listing.shifts(&self.group);
-        let inverses = inverses(alloc, &shifts, self.right.as_slice())?;
-        self.inverses = inverses;
+        let inverses = inverses(alloc, &shifts, self.tables.right.as_slice())?;
+        self.tables.inverses = inverses;
         Ok(())
     }
 

@@ -16,6 +16,7 @@
 //! - `builder`: finds the members, length by length, with their left shifts
 //! - `lower`: the shorter elements t y of a new element y
 //! - `lifting`: whether a new element is below the top
+//! - `tables`: what is kept of each member beside its left shifts
 //! - `right_shifts`: the table of right shifts
 //! - `inverses`: the table of inverses
 //! - `descents`: the descents of each member, read off these tables
@@ -36,6 +37,7 @@ mod right_shifts;
 mod scope;
 mod shifts;
 mod standing;
+mod tables;
 
 pub use context::Context;
 pub use fault::ContextFault;

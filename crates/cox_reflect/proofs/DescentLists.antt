@@ -1,5 +1,5 @@
 -- The lists of descents, by any test that tells the descents among the letters.
-use Rattle.std.proofs.Common.{◌≡◌, ℕ, zero, suc, ◌+◌, ◌≤◌, ◌<◌, Bool, true, nat_lt, List, [], filter, ◌↔◌, refl}
+use Rattle.std.proofs.Common.{◌≡◌, ℕ, zero, suc, ◌+◌, ◌≤◌, ◌<◌, Bool, true, nat_lt, List, filter, ◌↔◌, refl}
 use Rattle.std.proofs.Common.{arith, ltb-true, lt-ltb}
 use Rattle.std.specs.Bool.{one_answer}
 use Rattle.std.specs.List.{range_with_len}

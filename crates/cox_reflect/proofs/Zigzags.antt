@@ -1,5 +1,5 @@
 -- Two letters t and s in turn: with their order m, t s t .. of 2 m - 1 letters is s.
-use Rattle.std.proofs.Common.{ℕ, zero, suc, ◌+◌, ◌-◌, List, [], ◌∷◌, ◌++◌, ℤ}
+use Rattle.std.proofs.Common.{ℕ, zero, suc, ◌-◌, List, [], ◌∷◌, ◌++◌, ℤ}
 use Rattle.cox_base.specs.Matrix.{IsLetter}
 use Rattle.cox_base.specs.Admissible.{IsAdmissible, HasOrder, order_two, order_three}
 use Rattle.cox_base.specs.IntegerMatrix.{IntegerMatrix}

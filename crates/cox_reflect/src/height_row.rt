@@ -28,7 +28,7 @@ pub(crate) trait HeightRow: Copy {
     fn of_identity() -> Self
         ensures { (A : IntegerMatrix) → A.rank ≤ MAX_RANK → AreHeights A [] (values result) };
 
-    /// From the heights of u to those of s u. None where a number overflows: what the heights are then is not said.
+    /// From the heights of u to those of s u. None where a number is too large: what the heights are then is not said.
     fn put_first(&mut self, g: &Coxeter, s: u8) -> Option<()>
         requires letter { IsLetter g.now.rank s }
         ensures heights { IfSome result (λ _. (u : List ℕ) → AreHeights (integer_matrix g.now) u (values self.old)

@@ -23,8 +23,9 @@ const LARGEST: u64 = i64::MAX as u64 / 3;
 
 /// For an element u the heights of the roots u^-1 e(t), t = 1 to the rank: a root's height is the sum of its coordinates.
 ///
-/// The letter t is a left descent of u exactly where its height is negative (Humphreys 5.4). Sums are checked: a call gives None where one
-/// overflows, which happens for no word of at most [`LETTERS_OF_64_BITS`] letters. Contracts say only which word they are the heights of.
+/// The letter t is a left descent of u exactly where its height is negative (Humphreys 5.4). Sums are checked: a call gives None where a
+/// number is too large. Contracts exclude that for elements of at most [`LETTERS_OF_64_BITS`] letters. Of others they say which word the
+/// heights are of, and not that there are any.
 #[derive(Clone, Copy, PartialEq, Eq, Hash)]
 pub struct Heights {
     // that of the letter t at t - 1; past the rank they mean nothing
@@ -57,7 +58,7 @@ impl Heights {
         of_reversed(g, w.as_slice())
     }
 
-    /// From the heights of u to those of s u. None where a number overflows: what the heights are then is not said.
+    /// From the heights of u to those of s u. None where a number is too large: what the heights are then is not said.
     pub fn prepend(&mut self, g: &Coxeter, s: u8) -> Option<()>
         requires letter { IsLetter g.now.rank s }
         ensures heights { IfSome result (λ _. (u : List ℕ) → AreHeights (integer_matrix g.now) u self.old.values
@@ -108,7 +109,7 @@ impl Heights {
     }
 }
 
-/// Whether the element with these heights is below that of a reduced word. None where a number overflows.
+/// Whether the element with these heights is below that of a reduced word. None where a number is too large.
 ///
 /// For example in A 2 the element with the heights of `1` is below the word 2, 1.
 pub fn below_reduced(g: &Coxeter, heights: Heights, form: &[u8]) -> Option<bool>

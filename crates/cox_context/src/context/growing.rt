@@ -16,10 +16,8 @@ ghost use Rattle.cox_context.specs.FaultMeaning.{IsRefusal};
 use crate::ContextFault;
 use crate::appending::append_below;
 use crate::context::Context;
-use crate::descents::lowering_set;
-use crate::inverses::{cut_back_inverses, push_inverse};
+use crate::inverses::cut_back_inverses;
 use crate::members::MAX_MEMBERS;
-use crate::right_shifts::push_last_row;
 use crate::shifts::cut_back;
 use cox_base::Word;
 use cox_minroots::RootTable;
@@ -102,19 +100,10 @@ impl Context {
         ensures kept { OnErr result (self.new ≡ self.old) }
     {
         let rank = self.group.rank();
-        let number = self.listing.members.len();
-        self.right.reserve(rank as usize)?;
-        self.left_descents.reserve(1)?;
-        self.right_descents.reserve(1)?;
-        self.inverses.reserve(1)?;
+        let _len = self.listing.members.len();
+        self.tables.reserve(rank)?;
         self.listing.append(&self.group, s, j)?;
-        let shifts = self.listing.shifts(&self.group);
-        push_last_row(&mut self.right, &shifts);
-        push_inverse(&mut self.inverses, &shifts, self.right.as_slice());
-        let left_set = lowering_set(self.listing.left.as_slice(), rank, number);
-        self.left_descents.push_reserved(left_set);
-        let right_set = lowering_set(self.right.as_slice(), rank, number);
-        self.right_descents.push_reserved(right_set);
+        self.tables.push(&self.group, &self.listing);
         self.narrow_left.clear();
         self.narrow_right.clear();
         Ok(())
@@ -132,10 +121,10 @@ impl Context {
         }
         let rank = self.group.rank();
         self.listing.cut_back(rank, count);
-        cut_back(&mut self.right, rank, count);
-        cut_back_inverses(&mut self.inverses, count);
-        self.left_descents.truncate(count as usize);
-        self.right_descents.truncate(count as usize);
+        cut_back(&mut self.tables.right, rank, count);
+        cut_back_inverses(&mut self.tables.inverses, count);
+        self.tables.left_descents.truncate(count as usize);
+        self.tables.right_descents.truncate(count as usize);
         self.narrow_left.clear();
         self.narrow_right.clear();
     }

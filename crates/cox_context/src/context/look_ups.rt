@@ -50,7 +50,7 @@ impl Context {
         requires member { i < length self.now.members }
         ensures { IsNumberOf self.now.members (normal_form (integer_matrix self.now.matrix) (word_at self.now.members i ++ s ∷ [])) result }
     {
-        let (narrow, table) = (self.narrow_right.as_slice(), self.right.as_slice());
+        let (narrow, table) = (self.narrow_right.as_slice(), self.tables.right.as_slice());
         entry_by(narrow, table, self.group.rank(), s, i)
     }
 
@@ -62,10 +62,10 @@ impl Context {
         requires member { i < length self.now.members }
         ensures { IsNumberOf self.now.members (normal_form (integer_matrix self.now.matrix) (reverse (word_at self.now.members i))) result }
     {
-        if self.inverses.is_empty() {
+        if self.tables.inverses.is_empty() {
             return self.inverse_along(i);
         }
-        kept_inverse(self.inverses.as_slice(), i)
+        kept_inverse(self.tables.inverses.as_slice(), i)
     }
 
     /// The same along the word of the member: the inverse of s v is the inverse of v with s behind it.
@@ -134,7 +134,7 @@ impl Context {
         requires { i < length self.now.members }
         ensures { (k : ℕ) → IsBitSet result k ↔ IsLeftDescent (integer_matrix self.now.matrix) (word_at self.now.members i) (k + 1) }
     {
-        self.left_descents[i as usize]
+        self.tables.left_descents[i as usize]
     }
 
     /// The same letters as a set: bit s - 1 is 1 exactly where l(x s) < l(x).
@@ -142,6 +142,6 @@ impl Context {
         requires { i < length self.now.members }
         ensures { (k : ℕ) → IsBitSet result k ↔ IsRightDescent (integer_matrix self.now.matrix) (word_at self.now.members i) (k + 1) }
     {
-        self.right_descents[i as usize]
+        self.tables.right_descents[i as usize]
     }
 }

@@ -3,7 +3,7 @@ use Rattle.std.proofs.Common.{ℕ, ◌-◌, ◌<◌, List, length, vec_len, ap, 
 use Rattle.std.proofs.lemmas.Bool.{eqb-false}
 use Rattle.cox_base.specs.IntegerMatrix.{integer_matrix}
 use Rattle.cox_reflect.proofs.Admissible.{IsAdmissible-integer_matrix}
-use Rattle.cox_context.proofs.InverseNumbers.{rest-known, row-within, inverses-last}
+use Rattle.cox_context.proofs.InverseNumbers.{rest-known, row-within, inverses-last, others-count}
 use Rattle.cox_context.proofs.PushedRows.{last-place}
 use Rattle.cox_context.proofs.inverses.push_inverse.Goals as goal
 
@@ -50,3 +50,29 @@ returns-clause-kept c =
     (IsAdmissible-integer_matrix c.args.shifts.now.matrix c.rank-rank.ensures.matrix) c.args.shifts.now.members c.rank-rank.ensures.closed
     c.args.table.now.items c.push_row.new.table.items c.inverse_by_rest-inverse.result (c.len-last.result - 1) c.requires.others some last
     c.inverse_by_rest-inverse.ensures (rw c.unwrap_or.ensures at c.push_row.ensures)
+
+pub inverse_by_rest-inverse-requires-clause-before : goal.inverse_by_rest-inverse-requires-clause-before
+inverse_by_rest-inverse-requires-clause-before c =
+    let count = others-count (integer_matrix c.args.shifts.now.matrix) c.args.shifts.now.members c.args.table.now.items c.requires.others
+    (omega (
+      arith,
+      eqb-false (vec_len c.args.table.now) 0 (sym c.if-is_empty.ensures),
+      c.as_slice.ensures.len,
+      ap (λ (items : List ℕ). length items) c.as_slice.ensures.value,
+    )) (c.len-last.result - 1)
+    (last-place c.args.shifts.now.members c.members.result.now c.len-last.result c.members.ensures c.len-last.ensures.len
+    c.len-last.ensures.some)
+    in rw c.as_slice.ensures.value (omega (arith, count))
+
+pub push_row-requires-clause-size : goal.push_row-requires-clause-size
+push_row-requires-clause-size c =
+    let count = others-count (integer_matrix c.args.shifts.now.matrix) c.args.shifts.now.members c.args.table.now.items c.requires.others
+    (omega (
+      arith,
+      eqb-false (vec_len c.args.table.now) 0 (sym c.if-is_empty.ensures),
+      c.as_slice.ensures.len,
+      ap (λ (items : List ℕ). length items) c.as_slice.ensures.value,
+    )) (c.len-last.result - 1)
+    (last-place c.args.shifts.now.members c.members.result.now c.len-last.result c.members.ensures c.len-last.ensures.len
+    c.len-last.ensures.some)
+    in omega (arith, count)

@@ -28,3 +28,6 @@ returns-then-shares_descent c = λ y s d lower.
           (rw c.in-Some.is at c.requires.below) (rw c.rank.ensures.rank at (c.shares_descent.ensures yes))),
       λ b. c.if-shares_descent.true,
     )
+
+pub returns-else-shares_descent : goal.returns-else-shares_descent
+returns-else-shares_descent c = λ y s d lower. rw c.in-Some.is (c.lifts.ensures y s d lower)

@@ -43,3 +43,10 @@ returns c =
     c.link-link.result.first c.args.s
     (word_at c.args.shifts.now.members c.link-link.result.rest) c.args.i c.link-link.result.rest c.in_ok-shifted.shifted c.shift-2.result
     (rw c.members.ensures at c.link-link.ensures.word) refl found.1 c.shift-2.ensures
+
+pub shift-requires-2-clause-member : goal.shift-requires-2-clause-member
+shift-requires-2-clause-member c =
+    let is = rw c.rank-rank.ensures.rank at c.in_ok-shifted.ensures
+    in let known = c.requires.rest c.link-link.result.first c.link-link.result.rest c.link-link.ensures.inward
+    (rw c.members.ensures at c.link-link.ensures.word)
+    in (rw (← is) at known).0

@@ -59,3 +59,27 @@ returns-clause-coordinates c =
     c.loop-letter.yielded_by _ _ c.in-None.is c.next.ensures.steps
     in AreCoordinates-column (integer_matrix c.args.g.now) c.args.w.now.items c.args.s c.loop-letter.root
     (rw (end.0, reverse-reverse c.args.w.now.items) at c.loop-letter.invariant)
+
+pub overflow_sub-root-in-loop-letter : goal.overflow_sub-root-in-loop-letter
+overflow_sub-root-in-loop-letter c =
+    let turn = YieldsList-turn (YieldsList-from_rev_slice c.args.w.now.items cc) c.loop-letter.yielded _
+    c.loop-letter.yielded_by _ _ c.in-Some.field-0 c.in-Some.is c.next.ensures.steps
+    in let letter = image-letter c.args.g.now c.rank-rank.ensures.matrix c.args.w.now.items c.requires.letters c.requires.short c.args.s
+    (λ x. x.now) c.loop-letter.yielded c.in-Some.field-0 turn c.loop-letter.root c.loop-letter.invariant
+    in letter.from_one
+
+pub bounds-root-letter : goal.bounds-root-letter
+bounds-root-letter c =
+    let turn = YieldsList-turn (YieldsList-from_rev_slice c.args.w.now.items cc) c.loop-letter.yielded _
+    c.loop-letter.yielded_by _ _ c.in-Some.field-0 c.in-Some.is c.next.ensures.steps
+    in let letter = image-letter c.args.g.now c.rank-rank.ensures.matrix c.args.w.now.items c.requires.letters c.requires.short c.args.s
+    (λ x. x.now) c.loop-letter.yielded c.in-Some.field-0 turn c.loop-letter.root c.loop-letter.invariant
+    in omega (arith, letter.from_one, letter.to_rank, c.rank-rank.ensures.rank, c.rank-rank.ensures.limit)
+
+pub bounds-root-letter-in-loop-letter : goal.bounds-root-letter-in-loop-letter
+bounds-root-letter-in-loop-letter c =
+    let turn = YieldsList-turn (YieldsList-from_rev_slice c.args.w.now.items cc) c.loop-letter.yielded _
+    c.loop-letter.yielded_by _ _ c.in-Some.field-0 c.in-Some.is c.next.ensures.steps
+    in let letter = image-letter c.args.g.now c.rank-rank.ensures.matrix c.args.w.now.items c.requires.letters c.requires.short c.args.s
+    (λ x. x.now) c.loop-letter.yielded c.in-Some.field-0 turn c.loop-letter.root c.loop-letter.invariant
+    in omega (arith, letter.from_one, letter.to_rank, c.rank-rank.ensures.rank, c.rank-rank.ensures.limit)

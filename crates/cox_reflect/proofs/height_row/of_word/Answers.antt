@@ -6,7 +6,7 @@ use Rattle.std.proofs.lemmas.Iterator.Adapters.{YieldsList-from_rev_slice}
 use Rattle.std.proofs.lemmas.Iterator.Consumers.{YieldsList-turn, YieldsList-end}
 use Rattle.cox_base.specs.IntegerMatrix.{integer_matrix}
 use Rattle.cox_reflect.proofs.Admissible.{IsAdmissible-integer_matrix}
-use Rattle.cox_reflect.proofs.BackwardTurns.{turn-letter, turn-length}
+use Rattle.cox_reflect.proofs.BackwardTurns.{reverse-map_push, turn-letter, turn-length}
 use Rattle.cox_reflect.proofs.HeightsUnderLetters.{AreShortWith-word}
 use Rattle.cox_reflect.proofs.height_row.of_word.Goals as goal
 
@@ -34,3 +34,7 @@ returns-clause-heights g c =
     let end = YieldsList-end (YieldsList-from_rev_slice c.args.w.now cc) c.loop-s.yielded _ c.loop-s.yielded_by _ _ c.in-None.is
     c.next.ensures.steps
     in rw (end.0, reverse-reverse c.args.w.now) at c.loop-s.invariant
+
+pub loop-s-preserved : goal.loop-s-preserved
+loop-s-preserved g c = rw (reverse-map_push (λ x. x.now) c.loop-s.yielded c.in-Some.field-0)
+    (c.in_ok-put_first.ensures.heights (reverse (map (λ x. x.now) c.loop-s.yielded)) c.loop-s.invariant)

@@ -41,3 +41,12 @@ invariant_of-self-2 c =
       limit = c.self.inside.limit;
     }) members _ c.self.invariant y c.args.lower.now next room (closed (omega (arith, room, c.self.invariant.limit))) _
     (rw (rank, c.len-number.ensures.len) at pushed))
+
+pub invariant_of-self-then-is_err-2 : goal.invariant_of-self-then-is_err-2
+invariant_of-self-then-is_err-2 c =
+    let kept : c.push.new.self ≡ c.self.inside.listing.members = search rules
+    in rw (kept, c.reserve.ensures.items) c.self.invariant
+
+pub push-requires-clause-room : goal.push-requires-clause-room
+push-requires-clause-room c =
+    omega (arith, c.self.invariant.room, c.self.invariant.limit, c.len-number.ensures.len, c.if-number-self.false)

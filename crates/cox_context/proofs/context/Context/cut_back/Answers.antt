@@ -11,8 +11,9 @@ invariant_of-self c =
     in let within : c.args.count ≤ length v.listing.members = rw (← c.self.view_is) at c.requires.within
     in let closed = rw (← c.self.view_is) at c.requires.closed
     in rw (c.cut_back.ensures.members, c.truncate.ensures.items, c.truncate-2.ensures.items, c.clear.ensures.items, c.clear-2.ensures.items)
-    (context-cut (integer_matrix v.group) v.listing.members c.self.invariant.closed c.args.count within v.listing.left.items v.right.items
-    v.left_descents.items v.right_descents.items v.narrow_left.items v.narrow_right.items v.inverses.items c.cut_back.new.self.left.items
+    (context-cut (integer_matrix v.group) v.listing.members c.self.invariant.closed c.args.count within
+    v.listing.left.items v.tables.right.items v.tables.left_descents.items v.tables.right_descents.items v.narrow_left.items
+    v.narrow_right.items v.tables.inverses.items c.cut_back.new.self.left.items
     c.cut_back-2.new.table.items c.cut_back_inverses.new.table.items c.self.invariant closed
     (rw c.rank-rank.ensures.rank at c.cut_back.ensures.left)
     (rw c.rank-rank.ensures.rank at c.cut_back-2.ensures) c.cut_back_inverses.ensures.empty c.cut_back_inverses.ensures.cut)

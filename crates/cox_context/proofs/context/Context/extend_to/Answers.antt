@@ -1,5 +1,5 @@
 -- What was appended is the union; after a fault it is taken away.
-use Rattle.std.proofs.Common.{arith}
+use Rattle.std.proofs.Common.{arith, refl}
 use Rattle.cox_base.specs.IntegerMatrix.{integer_matrix}
 use Rattle.cox_reflect.proofs.Search.{length-normal_form}
 use Rattle.cox_reflect.proofs.NormalElements.{element-word, element-length}
@@ -41,3 +41,9 @@ pub unreachable-requires : goal.unreachable-requires
 unreachable-requires c =
     c.in-None.ensures (union-top (integer_matrix c.args.self.now.matrix) c.len-first.ensures.admissible c.args.form.now.items
     c.requires.form c.args.self.now.members c.append_below.new.context.members (c.in_default.ensures {u = tt}).members)
+
+pub returns-in-Err-clause-kept : goal.returns-in-Err-clause-kept
+returns-in-Err-clause-kept c =
+    let back = elements-back c.args.self.now c.append_below.new.context c.cut_back.new.self c.append_below.ensures.matrix
+    c.append_below.ensures.kept (rw c.len-first.ensures.len at c.cut_back.ensures)
+    in rw back (record { size = omega arith; word = λ i l. refl })

@@ -18,4 +18,4 @@ narrowed-requires-2 c =
     let few : length c.self.inside.listing.members ≤ NO_NARROW_MEMBER = omega
     (arith, c.if-len-gt-MAX_NARROW_MEMBERS.false, c.len.ensures.len, ap (λ (e : Elements). length e.members) c.self.view_is)
     in rw c.as_slice-2.ensures.value (right-small (integer_matrix c.self.inside.group) c.self.inside.listing.members
-    c.self.inside.right.items few c.self.invariant.right_size c.self.invariant.right_shifts)
+    c.self.inside.tables.right.items few c.self.invariant.tables.right_size c.self.invariant.tables.right_shifts)

@@ -9,7 +9,7 @@ use Rattle.cox_base.specs.Members.{IsElement}
 use Rattle.cox_base.specs.SortedList.{IsListOf}
 use Rattle.cox_context.specs.FaultMeaning.{IsRefusal}
 use Rattle.cox_context.specs.Building.{IsWanted}
-use Rattle.cox_context.proofs.MadeContexts.{made_members}
+use Rattle.cox_context.proofs.MadeContexts.{made_members, made_matrix, made_refused}
 use Rattle.cox_context.proofs.Ideals.{group-ideal, ideal-tailed}
 use Rattle.cox_context.proofs.GrowingMembers.{grown-list, grown-length}
 use Rattle.cox_context.proofs.ClosedContexts.{group-length, group-long}
@@ -63,3 +63,26 @@ returns-clause-members c =
     c.in_ok-builder-2.builder.members grown short
     in rw (← (c.copy.ensures ∙ c.group.ensures)) (made_members c.of_members.result c.copy.result c.finish-listing.result.members
     (IsListOf (IsElement A)) c.of_members.ensures.made (rw c.finish-listing.ensures.members list))
+
+pub of_members-requires-clause-closed : goal.of_members-requires-clause-closed
+of_members-requires-clause-closed c = rw c.finish-listing.ensures.members
+    (rw (c.in_ok-builder-2.ensures.search ∙ c.in_ok-builder.ensures.search) at c.finish-listing.ensures.closed)
+
+pub of_members-requires-clause-left : goal.of_members-requires-clause-left
+of_members-requires-clause-left c = rw c.finish-listing.ensures.members
+    (rw (c.in_ok-builder-2.ensures.search ∙ c.in_ok-builder.ensures.search) at c.finish-listing.ensures.left)
+
+pub returns-clause-matrix : goal.returns-clause-matrix
+returns-clause-matrix c = made_matrix c.of_members.result c.copy.result c.args.group.now c.finish-listing.result.members
+    c.of_members.ensures.made (c.copy.ensures ∙ c.group.ensures)
+
+pub returns-clause-few : goal.returns-clause-few
+returns-clause-few c =
+    let few : length c.in_ok-builder-2.builder.members ≤ c.args.limit
+    = rw (c.in_ok-builder-2.ensures.search ∙ c.in_ok-builder.ensures.search) at c.finish-listing.ensures.few
+    in made_members c.of_members.result c.copy.result c.finish-listing.result.members (λ words. length words ≤ c.args.limit)
+    c.of_members.ensures.made (rw c.finish-listing.ensures.members few)
+
+pub returns-clause-refused : goal.returns-clause-refused
+returns-clause-refused c = made_refused c.of_members.result (IsElement (integer_matrix c.args.group.now)) c.args.limit
+    c.of_members.ensures.fault
