@@ -26,8 +26,8 @@ returns-in_err-insert-clause-fault c =
     = record { from_one = c.loop-s.auto.s; to_rank = omega (arith, c.loop-s-test.true, c.rank.ensures.rank) }
     in on_err c.from_residual.result (stepping-lacks c.args.g.now c.rank.ensures.matrix
     (omega (arith, c.rank.ensures.rank, c.rank.ensures.limit)) c.args.roots.now c.loop-s.roots c.args.i c.loop-s.s c.loop-s.invariant
-    letter c.at-root.result c.at-root.ensures c.product-product.result c.product-product.ensures c.requires.few c.turned.result c.turned.ensures.root c.turned.ensures.coroot c.if-product-ge1.true
-    c.if-product-le-LONGEST.true c.in_err-insert.ensures.fault)
+    letter c.at-root.result c.at-root.ensures c.product-product.result c.product-product.ensures c.requires.few c.turned.result
+    c.turned.ensures.root c.turned.ensures.coroot c.if-product-ge1.true c.if-product-le-LONGEST.true c.in_err-insert.ensures.fault)
 
 pub loop-s-preserved : goal.loop-s-preserved
 loop-s-preserved c =

@@ -231,7 +231,8 @@ take_in-corrections-preserved g t c =
     let needed = correction-needed_at _
     c.len-len.ensures.admissible c.len-len.ensures.closed c.of-descent.result c.of-descent.ensures.descent c.of-descent.ensures.number
     c.deref-u-items.ensures.value c.in_ok-corrections.ensures c.corrections-test.true
-    in let more = work-needed {worker = c.args.self.now} {i = c.args.i} c.len-len.ensures.admissible needed c.obtain-in-corrections.ensures.work
+    in let more = work-needed {worker = c.args.self.now} {i = c.args.i} c.len-len.ensures.admissible needed
+    c.obtain-in-corrections.ensures.work
     in record {
       work = work-trans {worker = c.args.self.now} {i = c.args.i} c.corrections.invariant.work more;
       none = c.in_ok-obtain-2.ensures.here.1 ∙ c.corrections.invariant.none;
