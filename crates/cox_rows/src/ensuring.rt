@@ -125,7 +125,8 @@ impl Rows {
     fn ensure_each(&mut self, i: u32, numbers: &[u32], last: u64) -> Result<bool, StepFault>
         requires { AreNeededBefore self.old.elements i numbers.now }
         ensures rows { IsEnsured (word_at self.old.elements.members i) self.old self.new }
-        ensures settled { IfOk result (λ done. IsTrue done → (k : ℕ) → k < length numbers.now → IsSettled self.new (number_at numbers.now k)) }
+        ensures settled { IfOk result (λ done. IsTrue done → (k : ℕ) → k < length numbers.now
+            → IsSettled self.new (number_at numbers.now k)) }
         ensures stopped { IfOk result (λ done. done ≡ false → last < self.new.steps) }
         ensures fault { IfErr result (IsRowsFault self.old.elements self.old.limit
             (IsNeeded (integer_matrix self.old.elements.matrix) (word_at self.old.elements.members i))) }

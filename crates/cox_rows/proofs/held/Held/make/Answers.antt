@@ -24,11 +24,13 @@ pub returns-in_err-made-clause-tables : goal.returns-in_err-made-clause-tables
 returns-in_err-made-clause-tables c = rw c.context.ensures.context at c.row-made.ensures.tables
 
 pub returns-in_err-made-clause-steps : goal.returns-in_err-made-clause-steps
-returns-in_err-made-clause-steps c = steps-over c.args.i c.row-made.new.steps c.args.self.now c.add_steps.new.self c.add_steps.ensures.counted
+returns-in_err-made-clause-steps c = steps-over c.args.i c.row-made.new.steps c.args.self.now c.add_steps.new.self
+    c.add_steps.ensures.counted
     c.add_steps.ensures.none (rw (c.context.ensures.context, c.new-steps.ensures) at c.row-made.ensures.steps)
 
 pub returns-in_err-made-clause-counted : goal.returns-in_err-made-clause-counted
-returns-in_err-made-clause-counted c = rows-over c.args.i c.row-made.new.steps c.args.self.now c.add_steps.new.self c.add_steps.ensures.counted
+returns-in_err-made-clause-counted c = rows-over c.args.i c.row-made.new.steps c.args.self.now c.add_steps.new.self
+    c.add_steps.ensures.counted
     (λ j apart. c.add_steps.ensures.others j) c.add_steps.ensures.kept
     (λ there before. absurd (before (c.add_steps.ensures.others c.args.i there)))
 

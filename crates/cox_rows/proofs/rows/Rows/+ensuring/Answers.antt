@@ -75,12 +75,14 @@ ensure_lower-ensure_until-requires t c = (
 )
 
 pub ensure_lower-returns-in_err-ensure_until-clause-rows : goal.ensure_lower-returns-in_err-ensure_until-clause-rows
-ensure_lower-returns-in_err-ensure_until-clause-rows t c = lower-ensured c.args.self.now c.context-context.result.now c.of-descent.result c.args.i c.context-context.ensures.context
+ensure_lower-returns-in_err-ensure_until-clause-rows t c = lower-ensured c.args.self.now c.context-context.result.now
+    c.of-descent.result c.args.i c.context-context.ensures.context
     c.context-context.ensures.admissible c.context-context.ensures.closed c.of-descent.ensures.descent c.of-descent.ensures.number
     c.ensure_until.new.self c.ensure_until.ensures.rows
 
 pub ensure_lower-returns-then-not-branch-clause-rows : goal.ensure_lower-returns-then-not-branch-clause-rows
-ensure_lower-returns-then-not-branch-clause-rows t c = lower-ensured c.args.self.now c.context-context.result.now c.of-descent.result c.args.i c.context-context.ensures.context
+ensure_lower-returns-then-not-branch-clause-rows t c = lower-ensured c.args.self.now c.context-context.result.now
+    c.of-descent.result c.args.i c.context-context.ensures.context
     c.context-context.ensures.admissible c.context-context.ensures.closed c.of-descent.ensures.descent c.of-descent.ensures.number
     c.ensure_until.new.self c.ensure_until.ensures.rows
 
@@ -90,14 +92,16 @@ ensure_lower-returns-in_err-ensure_until-clause-fault t c =
     (IsNeeded (integer_matrix c.args.self.now.elements.matrix)
     (word_at c.args.self.now.elements.members c.of-descent.result.lower))) = search rules
     in lower-fault c.args.self.now c.context-context.result.now c.of-descent.result c.args.i c.context-context.ensures.context
-    c.context-context.ensures.admissible c.context-context.ensures.closed c.of-descent.ensures.descent c.of-descent.ensures.number c.from_residual.result fault
+    c.context-context.ensures.admissible c.context-context.ensures.closed c.of-descent.ensures.descent
+    c.of-descent.ensures.number c.from_residual.result fault
 
 pub ensure_lower-corrections-requires-clause-lower : goal.ensure_lower-corrections-requires-clause-lower
 ensure_lower-corrections-requires-clause-lower t c = settled-row c.ensure_until.new.self c.of-descent.result.lower
     (c.in_ok-ensure_until.ensures.settled c.if-not-branch.false)
 
 pub ensure_lower-returns-in_err-corrections-clause-rows : goal.ensure_lower-returns-in_err-corrections-clause-rows
-ensure_lower-returns-in_err-corrections-clause-rows t c = lower-ensured c.args.self.now c.context-context.result.now c.of-descent.result c.args.i c.context-context.ensures.context
+ensure_lower-returns-in_err-corrections-clause-rows t c = lower-ensured c.args.self.now c.context-context.result.now
+    c.of-descent.result c.args.i c.context-context.ensures.context
     c.context-context.ensures.admissible c.context-context.ensures.closed c.of-descent.ensures.descent c.of-descent.ensures.number
     c.ensure_until.new.self c.ensure_until.ensures.rows
 
@@ -107,19 +111,22 @@ pub ensure_lower-ensure_each-requires : goal.ensure_lower-ensure_each-requires
 ensure_lower-ensure_each-requires t c = (
   omega (arith, c.decreases),
   corrections-before c.args.self.now c.context-context.result.now c.of-descent.result c.args.i c.context-context.ensures.context
-      c.context-context.ensures.admissible c.context-context.ensures.closed c.of-descent.ensures.descent c.of-descent.ensures.number c.ensure_until.new.self c.ensure_until.ensures.rows
+      c.context-context.ensures.admissible c.context-context.ensures.closed c.of-descent.ensures.descent
+      c.of-descent.ensures.number c.ensure_until.new.self c.ensure_until.ensures.rows
       c.as_slice.result.now (rw c.as_slice.ensures.value c.in_ok-corrections.ensures),
 )
 
 pub ensure_lower-returns-clause-rows : goal.ensure_lower-returns-clause-rows
-ensure_lower-returns-clause-rows t c = corrections-ensured c.args.self.now c.context-context.result.now c.of-descent.result c.args.i c.context-context.ensures.context
+ensure_lower-returns-clause-rows t c = corrections-ensured c.args.self.now c.context-context.result.now c.of-descent.result
+    c.args.i c.context-context.ensures.context
     c.context-context.ensures.admissible c.context-context.ensures.closed c.of-descent.ensures.descent c.of-descent.ensures.number
     c.ensure_until.new.self c.ensure_until.ensures.rows c.as_slice.result.now (rw c.as_slice.ensures.value c.in_ok-corrections.ensures)
     c.ensure_each.new.self c.ensure_each.ensures.rows
 
 pub ensure_lower-returns-clause-settled : goal.ensure_lower-returns-clause-settled
 ensure_lower-returns-clause-settled t c = MatchResult-weaker c.ensure_each.result c.ensure_each.ensures.settled
-    (λ done settled t. needs-settled c.args.self.now c.context-context.result.now c.of-descent.result c.args.i c.context-context.ensures.context
+    (λ done settled t. needs-settled c.args.self.now c.context-context.result.now c.of-descent.result c.args.i
+    c.context-context.ensures.context
     c.context-context.ensures.admissible c.context-context.ensures.closed c.of-descent.ensures.descent c.of-descent.ensures.number
     c.ensure_until.new.self c.ensure_until.ensures.rows c.as_slice.result.now (rw c.as_slice.ensures.value c.in_ok-corrections.ensures)
     c.ensure_each.new.self c.ensure_each.ensures.rows (c.in_ok-ensure_until.ensures.settled c.if-not-branch.false) (settled t))
@@ -142,11 +149,13 @@ ensure_each-ensure_until-requires t c = (
 )
 
 pub ensure_each-returns-in_err-ensure_until-clause-rows : goal.ensure_each-returns-in_err-ensure_until-clause-rows
-ensure_each-returns-in_err-ensure_until-clause-rows t c = next-rows c.args.i c.args.self.now c.each.self c.ensure_until.new.self c.args.numbers.now c.each.u-index
+ensure_each-returns-in_err-ensure_until-clause-rows t c = next-rows c.args.i c.args.self.now c.each.self
+    c.ensure_until.new.self c.args.numbers.now c.each.u-index
     c.context-context.ensures.admissible c.requires c.each.invariant c.each-test.true c.ensure_until.ensures.rows
 
 pub ensure_each-returns-then-not-branch-clause-rows : goal.ensure_each-returns-then-not-branch-clause-rows
-ensure_each-returns-then-not-branch-clause-rows t c = next-rows c.args.i c.args.self.now c.each.self c.ensure_until.new.self c.args.numbers.now c.each.u-index
+ensure_each-returns-then-not-branch-clause-rows t c = next-rows c.args.i c.args.self.now c.each.self c.ensure_until.new.self
+    c.args.numbers.now c.each.u-index
     c.context-context.ensures.admissible c.requires c.each.invariant c.each-test.true c.ensure_until.ensures.rows
 
 pub ensure_each-returns-in_err-ensure_until-clause-fault : goal.ensure_each-returns-in_err-ensure_until-clause-fault
@@ -158,7 +167,8 @@ ensure_each-returns-in_err-ensure_until-clause-fault t c =
     c.context-context.ensures.admissible c.requires c.each.invariant c.each-test.true c.from_residual.result fault
 
 pub ensure_each-each-preserved : goal.ensure_each-each-preserved
-ensure_each-each-preserved t c = under_way-next c.args.i c.args.self.now c.each.self c.ensure_until.new.self c.args.numbers.now c.each.u-index
+ensure_each-each-preserved t c = under_way-next c.args.i c.args.self.now c.each.self c.ensure_until.new.self c.args.numbers.now
+    c.each.u-index
     c.context-context.ensures.admissible c.requires c.each.invariant c.each-test.true c.ensure_until.ensures.rows
     (c.in_ok-ensure_until.ensures.settled c.if-not-branch.false)
 

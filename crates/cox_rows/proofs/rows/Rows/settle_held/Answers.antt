@@ -9,7 +9,8 @@ members-init c = record { same = refl; all = λ t j l. absurd (omega (arith, l))
 pub members-preserved-then-is_settled : goal.members-preserved-then-is_settled
 members-preserved-then-is_settled c = record {
   same = c.members.invariant.same;
-  all = λ t. below_more (IsSettled c.members.self) c.members.i (c.members.invariant.all t) (c.is_settled.ensures.small c.if-is_settled.true);
+  all = λ t. below_more (IsSettled c.members.self) c.members.i (c.members.invariant.all t) (c.is_settled.ensures.small
+      c.if-is_settled.true);
 }
 
 pub members-preserved : goal.members-preserved
