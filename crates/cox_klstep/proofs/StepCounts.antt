@@ -124,3 +124,8 @@ module _ (e : Elements) (i old : ℕ) where
           (number_at extremal k) i (are.within k l) inside (omega (arith, more, all)) (are.below k l)))
           (cases_lt (number_at extremal k) done)
           in let some = h.each extremal are k l early in omega (arith, some)
+
+-- a polynomial that may be added up
+pub added-most : (added : Bool) (old new : ℕ) → (added ≡ true → new ≡ counted old 1) → (added ≡ false → new ≡ old) → new ≤ old + 1
+added-most true old new one none = let is = one refl in omega (arith, is)
+added-most false old new one none = let is = none refl in omega (arith, is)

@@ -44,13 +44,20 @@ impl RowIndex {
         ensures { OnOk result (IsIndexOf (arc_value row.now.values).extremal.items self.new) }
     {
         let _len = ctx.len();
-        let count = ctx.len() as usize;
-        if self.entries.len() < count {
-            self.entries.resize(count, 0)?;
-        }
+        make_room(&mut self.entries, ctx.len() as usize)?;
         put_places(&mut self.entries, &row.values().extremal);
         Ok(())
     }
+}
+
+/// Appends entries until there are so many.
+fn make_room(entries: &mut Vec<u32>, count: usize) -> Result<(), AllocError>
+    ensures { OnOk result (count ≤ length entries.new.items) }
+{
+    if entries.len() < count {
+        entries.resize(count, 0)?;
+    }
+    Ok(())
 }
 
 /// Puts for each number of a list the place where it stands there.

@@ -1,21 +1,26 @@
 -- How the rows that are held change while those of Need(w) are made.
-use Rattle.std.proofs.Common.{◌≡◌, ◌≢◌, inl, inr, ⊎_elim, ℕ, ◌+◌, ◌<◌, ◌≤◌, List, length, ℤ, refl, subst, ◌∙◌, arith}
+use Rattle.std.proofs.Common.{◌≡◌, ◌≢◌, inl, inr, ⊎_elim, ℕ, ◌+◌, ◌<◌, List, length, ℤ, refl, subst, ◌∙◌, below_more, arith}
 use Rattle.std.specs.Prelude.{IfErr, Result}
-use Rattle.std.proofs.lemmas.Bool.{cases_lt, cases_eq}
+use Rattle.std.proofs.lemmas.Bool.{cases_eq}
 use Rattle.std.proofs.lemmas.Result.{MatchResult-weaker}
-use Rattle.cox_base.specs.IntegerMatrix.{integer_matrix}
+use Rattle.cox_base.specs.IntegerMatrix.{IntegerMatrix, integer_matrix}
 use Rattle.cox_base.specs.Admissible.{IsAdmissible}
 use Rattle.cox_reflect.proofs.Elements.{same-refl}
 use Rattle.cox_hecke.specs.Needs.{IsNeeded, itself}
 use Rattle.cox_hecke.proofs.NeededElements.{needed-trans}
-use Rattle.cox_context.specs.Closed.{Elements}
+use Rattle.cox_context.specs.Closed.{Elements, IsClosed}
 use Rattle.cox_context.specs.Numbers.{word_at}
 use Rattle.cox_row.specs.Rising.{number_at}
+use Rattle.cox_row_symmetry.specs.declared.descents.Descent.{Descent}
+use Rattle.cox_row_symmetry.specs.DescentOf.{IsDescentAt}
+use Rattle.cox_row_symmetry.proofs.LowerMembers.{lower-before}
+use Rattle.cox_klstep.specs.NeedsOf.{HasNeeds, AreNeeds}
+use Rattle.cox_klstep.proofs.NeededRows.{listed-needs, shorter-needed, correction-before, correction-needed}
 use Rattle.cox_rows.specs.Holding.{Holding, HasRow}
 use Rattle.cox_row_builder.specs.declared.fault.StepFault.{StepFault}
 use Rattle.cox_row_builder.specs.Faults.{IsFault}
 use Rattle.cox_rows.specs.RowsFaults.{IsRowsFault}
-use Rattle.cox_rows.specs.Ensured.{IsEnsured, IsSettled}
+use Rattle.cox_rows.specs.Ensured.{AreNeededBefore, IsEnsured, IsSettled}
 use Rattle.cox_rows.specs.CountedRows.{AreRowsCounted}
 use Rattle.cox_rows.proofs.CountedRows.{counted-none, counted-trans}
 use Rattle.cox_rows.proofs.FaultsOfRows.{fault-weaker, fault-of_member}
@@ -100,38 +105,89 @@ fault-own e limit i result g within h = MatchResult-weaker result h (λ x t. t)
     (λ fault f. fault-of_member e limit (IsNeeded (integer_matrix e.matrix) (word_at e.members i)) i fault within
     (itself (same-refl (integer_matrix e.matrix) g (word_at e.members i))) f)
 
--- ---- the corrections, one after another
+-- ---- the shorter element, and the corrections
 
--- From a to b the shorter element was ensured, and from b to h the first n of the numbers. What was settled stays so.
-pub record IsUnderWay (w : List ℕ) (a b h : Holding) (numbers : List ℕ) (n : ℕ) : Type 0 where
-  pub rows : IsEnsured w a h
-  pub stays : (j : ℕ) → IsSettled b j → IsSettled h j
+-- the least left descent of the member i, in the context of a
+module _ (a : Holding) (x : Elements) (d : Descent) (i : ℕ) (context : x ≡ a.elements) (g : IsAdmissible (integer_matrix a.elements.matrix))
+    (closed : IsClosed (integer_matrix a.elements.matrix) a.elements.members) (descent : IsDescentAt x d) (number : d.member ≡ i) where
+  abbrev A : IntegerMatrix
+  A = integer_matrix a.elements.matrix
+
+  abbrev w : List ℕ
+  w = word_at a.elements.members i
+
+  is : IsDescentAt a.elements d
+  is = rw context at descent
+
+  pub lower-first : d.lower < i
+  lower-first = let less = lower-before a.elements g closed d is in omega (arith, less, number)
+
+  pub lower-within : d.lower < length a.elements.members
+  lower-within = is.lower_within
+
+  lower-needed : IsNeeded A w (word_at a.elements.members d.lower)
+  lower-needed = rw number at (shorter-needed a.elements g closed d is)
+
+  pub lower-ensured : (b : Holding) → IsEnsured (word_at a.elements.members d.lower) a b → IsEnsured w a b
+  lower-ensured b = ensured-needed a b w (word_at a.elements.members d.lower) g lower-needed
+
+  pub lower-fault : {T : Type 0} (result : Result T StepFault)
+      → IfErr result (IsRowsFault a.elements a.limit (IsNeeded A (word_at a.elements.members d.lower)))
+      → IfErr result (IsRowsFault a.elements a.limit (IsNeeded A w))
+  lower-fault result = fault-needed a.elements a.limit w (word_at a.elements.members d.lower) result g lower-needed
+
+  -- b is a with what the shorter element needs, and c with what the corrections need too
+  module _ (b : Holding) (rows : IsEnsured (word_at a.elements.members d.lower) a b) (numbers : List ℕ)
+      (are : AreNeeds (integer_matrix b.elements.matrix) b.elements.members d.letter (word_at b.elements.members d.member) numbers) where
+    listed : AreNeeds A a.elements.members d.letter (word_at a.elements.members d.member) numbers
+    listed = rw rows.elements at are
+
+    pub corrections-before : AreNeededBefore b.elements i numbers
+    corrections-before = rw rows.elements record {
+      member = rw number at is.within;
+      before = λ k l. let less = correction-before a.elements g closed d is numbers listed k l in omega (arith, less, number);
+      needed = λ k l. rw number at (correction-needed a.elements g closed d is numbers listed k l);
+    }
+
+    pub corrections-ensured : (c : Holding) → IsEnsured (word_at b.elements.members i) b c → IsEnsured w a c
+    corrections-ensured c more = ensured-trans w a b c (lower-ensured b rows)
+        (subst (λ (e : Elements). IsEnsured (word_at e.members i) b c) rows.elements more)
+
+    pub needs-settled : (c : Holding) → IsEnsured (word_at b.elements.members i) b c → IsSettled b d.lower
+        → ((k : ℕ) → k < length numbers → IsSettled c (number_at numbers k)) → HasNeeds a.elements (IsSettled c) i
+    needs-settled c more lower each = rw number at (listed-needs a.elements (IsSettled c) d numbers g closed is listed
+        (settled-more b c more.elements more.limit more.kept d.lower lower) each)
+
+-- ---- members that are needed, one after another
+
+-- From a to h the first n of the numbers were ensured.
+pub record IsUnderWay (i : ℕ) (a h : Holding) (numbers : List ℕ) (n : ℕ) : Type 0 where
+  pub rows : IsEnsured (word_at a.elements.members i) a h
   pub settled : (k : ℕ) → k < n → IsSettled h (number_at numbers k)
 
-pub under_way-start : (w : List ℕ) (a b : Holding) (numbers : List ℕ) → IsEnsured w a b → IsUnderWay w a b b numbers 0
-under_way-start w a b numbers rows = record {
-  rows = rows;
-  stays = λ j settled. settled;
-  settled = λ k l. absurd (omega (arith, l));
-}
+pub under_way-start : (i : ℕ) (a : Holding) (numbers : List ℕ) → IsUnderWay i a a numbers 0
+under_way-start i a numbers =
+    record { rows = ensured-refl (word_at a.elements.members i) a; settled = λ k l. absurd (omega (arith, l)) }
 
-pub under_way-rows : (w : List ℕ) (a b x y : Holding) (numbers : List ℕ) (n u : ℕ) → IsAdmissible (integer_matrix a.elements.matrix)
-    → IsUnderWay w a b x numbers n → IsNeeded (integer_matrix a.elements.matrix) w (word_at a.elements.members u)
-    → IsEnsured (word_at x.elements.members u) x y → IsEnsured w a y
-under_way-rows w a b x y numbers n u g h needed rows = ensured-trans w a x y h.rows
-    (ensured-needed x y w (word_at x.elements.members u) (rw h.rows.elements g) (rw h.rows.elements needed) rows)
+module _ (i : ℕ) (a x y : Holding) (numbers : List ℕ) (n : ℕ) (g : IsAdmissible (integer_matrix a.elements.matrix))
+    (are : AreNeededBefore a.elements i numbers) (h : IsUnderWay i a x numbers n) (l : n < length numbers) where
+  pub next-within : number_at numbers n < length x.elements.members
+  next-within = rw h.rows.elements (let less = are.before n l in omega (arith, less, are.member))
 
-pub under_way-next : (w : List ℕ) (a b x y : Holding) (numbers : List ℕ) (n : ℕ) → IsAdmissible (integer_matrix a.elements.matrix)
-    → IsUnderWay w a b x numbers n
-    → IsNeeded (integer_matrix a.elements.matrix) w (word_at a.elements.members (number_at numbers n))
-    → IsEnsured (word_at x.elements.members (number_at numbers n)) x y → IsSettled y (number_at numbers n)
-    → IsUnderWay w a b y numbers (n + 1)
-under_way-next w a b x y numbers n g h needed rows settled = record {
-  rows = under_way-rows w a b x y numbers n (number_at numbers n) g h needed rows;
-  stays = λ j was. more j (h.stays j was);
-  settled = λ k l. ⊎_elim (λ (less : k < n). more (number_at numbers k) (h.settled k less))
-      (λ (last : n ≤ k). let e : k ≡ n = omega (arith, l, last) in rw e settled) (cases_lt k n);
-}
-  where
-    more : (j : ℕ) → IsSettled x j → IsSettled y j
-    more = settled-more x y rows.elements rows.limit rows.kept
+  pub next-rows : IsEnsured (word_at x.elements.members (number_at numbers n)) x y → IsEnsured (word_at a.elements.members i) a y
+  next-rows rows = ensured-trans (word_at a.elements.members i) a x y h.rows (ensured-needed x y (word_at a.elements.members i)
+      (word_at x.elements.members (number_at numbers n)) (rw h.rows.elements g) (rw h.rows.elements (are.needed n l)) rows)
+
+  pub next-fault : {T : Type 0} (result : Result T StepFault) → IfErr result (IsRowsFault x.elements x.limit
+      (IsNeeded (integer_matrix x.elements.matrix) (word_at x.elements.members (number_at numbers n))))
+      → IfErr result (IsRowsFault a.elements a.limit (IsNeeded (integer_matrix a.elements.matrix) (word_at a.elements.members i)))
+  next-fault result fault = fault-needed a.elements a.limit (word_at a.elements.members i)
+      (word_at a.elements.members (number_at numbers n)) result g (are.needed n l) (rw (h.rows.elements, h.rows.limit) at fault)
+
+  pub under_way-next : IsEnsured (word_at x.elements.members (number_at numbers n)) x y → IsSettled y (number_at numbers n)
+      → IsUnderWay i a y numbers (n + 1)
+  under_way-next rows settled = record {
+    rows = next-rows rows;
+    settled = below_more (λ k. IsSettled y (number_at numbers k)) n
+        (λ k less. settled-more x y rows.elements rows.limit rows.kept (number_at numbers k) (h.settled k less)) settled;
+  }

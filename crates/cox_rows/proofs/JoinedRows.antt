@@ -1,10 +1,12 @@
 -- The rows of a list are put at their places in a list that is not shorter, one after another.
 use Rattle.std.proofs.Common.{◌≡◌, ◌≢◌, ◌⊎◌, inl, inr, ⊎_elim, ℕ, ◌+◌, ◌<◌, ◌≤◌, List, length, true, Option, None, Some, is_some, sym}
-use Rattle.std.proofs.Common.{ap, ◌∙◌, arith}
+use Rattle.std.proofs.Common.{ap, ◌∙◌, arith, ℤ}
+use Rattle.std.specs.Prelude.{IfSome}
 use Rattle.std.proofs.lemmas.Bool.{cases_lt, cases_eq}
+use Rattle.cox_context.specs.Closed.{Elements}
 use Rattle.cox_row.specs.declared.row.Row.{Row}
 use Rattle.cox_row.specs.RowLists.{row_at}
-use Rattle.cox_rows.specs.Holding.{AreBoth}
+use Rattle.cox_rows.specs.Holding.{IsHeldRow, AreRows, AreBoth}
 use Rattle.cox_rows.proofs.HeldRows.{not-there}
 
 -- the rows before the place n were put among the others
@@ -55,3 +57,12 @@ pub both-others : (first second all : List (Option Row)) → AreBoth first secon
 both-others first second all h i some = ⊎_elim
     (λ (same : row_at all i ≡ row_at first i). inl (sym (ap is_some same) ∙ some))
     (λ (same : row_at all i ≡ row_at second i). inr (sym (ap is_some same) ∙ some)) (h.from i)
+
+-- the rows of both lists are rows of members
+pub both-rows : (e : Elements) (limit : ℤ) (first second all : List (Option Row)) → AreRows e limit first
+    → ((i : ℕ) → IfSome (row_at second i) (IsHeldRow e limit i)) → AreBoth first second all → AreRows e limit all
+both-rows e limit first second all are more both = record {
+  least = are.least;
+  each = λ i. ⊎_elim (λ (same : row_at all i ≡ row_at first i). rw same (are.each i))
+      (λ (same : row_at all i ≡ row_at second i). rw same (more i)) (both.from i);
+}

@@ -1,5 +1,5 @@
 -- The polynomials that are added up for one row more.
-use Rattle.std.proofs.Common.{◌≡◌, ◌≢◌, ℕ, subst, arith}
+use Rattle.std.proofs.Common.{◌≡◌, ◌≢◌, ℕ, arith}
 use Rattle.cox_context.specs.Closed.{Elements}
 use Rattle.cox_row_symmetry.specs.ImagesAtHand.{IsMadeByStep}
 use Rattle.cox_row_builder.specs.Counted.{counted}
@@ -18,18 +18,16 @@ module _ (e : Elements) (i old more new : ℕ) (is : new ≡ counted old more) w
   counted-added : IsCounted e i 0 more → IsCounted e i old new
   counted-added h extremal all = let some = h extremal all in omega (arith, some, is)
 
--- the row of the member i was made from a, which is the same as b, and what it took was added to the count: so d was left
-module _ (i more : ℕ) {a b : Holding} (d : Holding) (same : a ≡ b) (is : d.steps ≡ counted a.steps more) where
-  pub steps-over : (more ≡ 0 → d.steps ≡ a.steps) → IsWithinSteps a.elements i 0 more → IsWithinSteps b.elements i b.steps d.steps
-  steps-over none h =
-      subst (λ (s : Holding). IsWithinSteps s.elements i s.steps d.steps) same (steps-added a.elements i a.steps more d.steps is none h)
+-- the row of the member i was made from a, and what it took was added to the count: so d was left
+module _ (i more : ℕ) (a d : Holding) (is : d.steps ≡ counted a.steps more) where
+  pub steps-over : (more ≡ 0 → d.steps ≡ a.steps) → IsWithinSteps a.elements i 0 more → IsWithinSteps a.elements i a.steps d.steps
+  steps-over = steps-added a.elements i a.steps more d.steps is
 
-  pub counted-over : (IsMadeByStep a.elements (HasRow a) i → IsCounted a.elements i 0 more) → IsMadeByStep b.elements (HasRow b) i
-      → IsCounted b.elements i b.steps d.steps
-  counted-over made = subst (λ (s : Holding). IsMadeByStep s.elements (HasRow s) i → IsCounted s.elements i s.steps d.steps) same
-      (λ by_step. counted-added a.elements i a.steps more d.steps is (made by_step))
+  pub counted-over : (IsMadeByStep a.elements (HasRow a) i → IsCounted a.elements i 0 more) → IsMadeByStep a.elements (HasRow a) i
+      → IsCounted a.elements i a.steps d.steps
+  counted-over made by_step = counted-added a.elements i a.steps more d.steps is (made by_step)
 
   pub rows-over : ((j : ℕ) → j ≢ i → HasRow d j → HasRow a j) → ((j : ℕ) → HasRow a j → HasRow d j)
-      → (HasRow d i → (HasRow a i → ⊥) → IsMadeByStep a.elements (HasRow a) i → IsCounted a.elements i 0 more) → AreRowsCounted b d
-  rows-over others kept made = subst (λ (s : Holding). AreRowsCounted s d) same (counted-one a d i others kept (omega (arith, is))
-      (λ there before by_step. counted-added a.elements i a.steps more d.steps is (made there before by_step)))
+      → (HasRow d i → (HasRow a i → ⊥) → IsMadeByStep a.elements (HasRow a) i → IsCounted a.elements i 0 more) → AreRowsCounted a d
+  rows-over others kept made = counted-one a d i others kept (omega (arith, is))
+      (λ there before by_step. counted-added a.elements i a.steps more d.steps is (made there before by_step))

@@ -2,7 +2,9 @@
 use Rattle.std.specs.Prelude.{◌≡◌, ◌⊎◌, ℕ, List, length, ◌<◌, Bool, true, false, slice_index_or, Option, IfSome}
 use Rattle.cox_base.specs.IntegerMatrix.{integer_matrix}
 use Rattle.cox_hecke.specs.Needs.{IsNeeded}
+use Rattle.cox_context.specs.Closed.{Elements}
 use Rattle.cox_context.specs.Numbers.{word_at}
+use Rattle.cox_row.specs.Rising.{number_at}
 use Rattle.cox_klstep.specs.declared.tables.Tables.{Tables}
 use Rattle.cox_klstep.specs.TablesOf.{AreTables}
 use Rattle.cox_rows.specs.Beyond.{NeedsBeyond}
@@ -24,6 +26,13 @@ pub record IsEnsured (w : List ℕ) (old new : Holding) : Type 0 where
       → HasRow old j ⊎ IsNeeded (integer_matrix old.elements.matrix) w (word_at old.elements.members j)
   pub counted : AreRowsCounted old new
   pub again : HoldsNeed old w → new.steps ≡ old.steps
+
+-- the row of the member i needs those of the members with these numbers, and they come before it
+pub record AreNeededBefore (e : Elements) (i : ℕ) (numbers : List ℕ) : Type 0 where
+  pub member : i < length e.members
+  pub before : (k : ℕ) → k < length numbers → number_at numbers k < i
+  pub needed : (k : ℕ) → k < length numbers
+      → IsNeeded (integer_matrix e.matrix) (word_at e.members i) (word_at e.members (number_at numbers k))
 
 -- no row of the Need of the member with the number i is beyond the limits, and all of them are held
 pub record IsSettled (h : Holding) (i : ℕ) : Type 0 where

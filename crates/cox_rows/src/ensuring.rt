@@ -16,18 +16,16 @@ ghost use Rattle.cox_row_symmetry.specs.DescentOf.{IsDescentAt};
 ghost use Rattle.cox_klstep.specs.NeedsOf.{HasNeeds, AreNeeds};
 ghost use Rattle.cox_klstep.specs.TablesOf.{AreTables};
 ghost use Rattle.cox_row_builder.specs.Faults.{IsFault};
-ghost use Rattle.cox_klstep.specs.CountedSteps.{IsWithinSteps, IsCounted};
-ghost use Rattle.cox_row_symmetry.specs.ImagesAtHand.{IsMadeByStep};
 ghost use Rattle.cox_rows.specs.Beyond.{NeedsBeyond};
 ghost use Rattle.cox_rows.specs.CountedRows.{AreRowsCounted};
 ghost use Rattle.cox_rows.specs.Holding.{HasRow, held};
 ghost use Rattle.cox_rows.specs.RowsFaults.{IsRowsFault, IsFaultOfSome};
-ghost use Rattle.cox_rows.specs.Ensured.{HoldsNeed, IsEnsured, IsSettled};
+ghost use Rattle.cox_rows.specs.Ensured.{HoldsNeed, AreNeededBefore, IsEnsured, IsSettled};
 
 use crate::Rows;
 use crate::flags::set_at;
 use cox_base::Side;
-use cox_klstep::{Descent, StepFault, Steps, Tables, needs, row, shortens};
+use cox_klstep::{Descent, StepFault, Tables, needs, shortens};
 use cox_row::Row;
 use std::alloc::{AllocError, Global};
 
@@ -96,8 +94,7 @@ impl Rows {
         if self.steps() > last {
             return Ok(false);
         }
-        self.make(i)?;
-        self.settle(i)?;
+        self.make_settled(i)?;
         Ok(true)
     }
 
@@ -120,7 +117,22 @@ impl Rows {
             return Ok(false);
         }
         let corrections = self.corrections(&descent)?;
-        'each: for &u in corrections.iter() {
+        self.ensure_each(i, corrections.as_slice(), last)
+    }
+
+    /// The same for these members, one after another. The row of the member with the number i needs theirs.
+    #[cycle(ensuring)]
+    fn ensure_each(&mut self, i: u32, numbers: &[u32], last: u64) -> Result<bool, StepFault>
+        requires { AreNeededBefore self.old.elements i numbers.now }
+        ensures rows { IsEnsured (word_at self.old.elements.members i) self.old self.new }
+        ensures settled { IfOk result (λ done. IsTrue done → (k : ℕ) → k < length numbers.now
+            → IsSettled self.new (number_at numbers.now k)) }
+        ensures stopped { IfOk result (λ done. done ≡ false → last < self.new.steps) }
+        ensures fault { IfErr result (IsRowsFault self.old.elements self.old.limit
+            (IsNeeded (integer_matrix self.old.elements.matrix) (word_at self.old.elements.members i))) }
+    {
+        let _context = self.context();
+        'each: for &u in numbers {
             if !self.ensure_until(u, last)? {
                 return Ok(false);
             }
@@ -271,8 +283,7 @@ impl Rows {
         if self.is_settled(i) {
             return Ok(());
         }
-        self.make(i)?;
-        self.settle(i)
+        self.make_settled(i)
     }
 
     /// The members that correct the step by a descent, where the row of the shorter element is there.
@@ -291,6 +302,25 @@ impl Rows {
         Ok(numbers)
     }
 
+    /// Makes the row of the member with the number i, unless it is there, where all that it is made from is settled, and notes that the
+    /// member is settled.
+    fn make_settled(&mut self, i: u32) -> Result<(), StepFault>
+        requires member { i < length self.old.elements.members }
+        requires needs { HasNeeds self.old.elements (IsSettled self.old) i }
+        ensures elements { self.new.elements ≡ self.old.elements }
+        ensures limit { self.new.limit ≡ self.old.limit }
+        ensures kept { (j : ℕ) → HasRow self.old j → HasRow self.new j }
+        ensures others { (j : ℕ) → j ≢ i → HasRow self.new j → HasRow self.old j }
+        ensures settled { OnOk result (IsSettled self.new i) }
+        ensures again { HasRow self.old i → self.new.steps ≡ self.old.steps }
+        ensures counted { AreRowsCounted self.old self.new }
+        ensures fault { IfErr result (IsFault (integer_matrix self.old.elements.matrix) self.old.elements.members self.old.limit
+            (λ w. w ≡ i)) }
+    {
+        self.make(i)?;
+        self.settle(i)
+    }
+
     /// Makes the row of the member with the number i, unless it is there.
     fn make(&mut self, i: u32) -> Result<(), StepFault>
         requires member { i < length self.old.elements.members }
@@ -301,10 +331,7 @@ impl Rows {
         ensures others { (j : ℕ) → j ≢ i → HasRow self.new j → HasRow self.old j }
         ensures there { OnOk result (HasRow self.new i) }
         ensures again { HasRow self.old i → self.new.steps ≡ self.old.steps }
-        ensures steps { IsWithinSteps self.old.elements i self.old.steps self.new.steps }
-        ensures counted { OnOk result (¬ HasRow self.old i → IsMadeByStep self.old.elements (HasRow self.old) i
-            → IsCounted self.old.elements i self.old.steps self.new.steps) }
-        ensures rows { AreRowsCounted self.old self.new }
+        ensures counted { AreRowsCounted self.old self.new }
         ensures fault { IfErr result (IsFault (integer_matrix self.old.elements.matrix) self.old.elements.members self.old.limit
             (λ w. w ≡ i)) }
     {
@@ -313,24 +340,9 @@ impl Rows {
         }
         let alloc = *self.settled.allocator();
         let mut tables = self.take_tables(alloc)?;
-        let mut steps = Steps::new();
-        let made = row(
-            alloc,
-            self.held.context(),
-            i,
-            &self.held,
-            &mut tables,
-            &mut steps,
-        );
+        let made = self.held.make(alloc, i, &mut tables);
         self.tables = Some(tables);
-        self.held.add_steps(&steps);
-        match made {
-            Ok(row) => {
-                self.held.put(i, row)?;
-                Ok(())
-            }
-            Err(fault) => Err(fault),
-        }
+        made
     }
 
     /// The tables of the context, which are taken out.

@@ -11,13 +11,19 @@ ghost use Rattle.cox_context.specs.Numbers.{word_at};
 ghost use Rattle.cox_context.specs.Numbering.{IsNumberOf};
 ghost use Rattle.cox_row.specs.RowLists.{row_at};
 ghost use Rattle.cox_row_builder.specs.Counted.{counted};
+ghost use Rattle.cox_row_builder.specs.Faults.{IsFault};
+ghost use Rattle.cox_row_symmetry.specs.ImagesAtHand.{IsMadeByStep};
+ghost use Rattle.cox_klstep.specs.CountedSteps.{IsWithinSteps, IsCounted};
+ghost use Rattle.cox_klstep.specs.NeedsOf.{HasNeeds};
+ghost use Rattle.cox_klstep.specs.TablesOf.{AreTables};
 ghost use Rattle.cox_rows.specs.Beyond.{IsBeyond};
+ghost use Rattle.cox_rows.specs.CountedRows.{AreRowsCounted};
 ghost use Rattle.cox_rows.specs.Holding.{Holding, HasRow, IsHeldRow, AreBoth, held};
 ghost use Rattle.cox_context.specs.Spread.{AreKept};
 
 use cox_base::Word;
 use cox_context::{Context, ContextFault, MAX_MEMBERS};
-use cox_klstep::Steps;
+use cox_klstep::{StepFault, Steps, Tables, row};
 use cox_row::{LowerRows, Row};
 use std::alloc::{AllocError, Global};
 use std::marker::Model;
@@ -113,6 +119,36 @@ impl Held {
         ensures steps { self.new.steps ≡ self.old.steps }
     {
         take_at(&mut self.rows, i as usize)
+    }
+
+    /// Makes the row of the member with the number i from rows that are there, and puts it.
+    pub(crate) fn make(
+        &mut self,
+        alloc: Global,
+        i: u32,
+        tables: &mut Tables,
+    ) -> Result<(), StepFault>
+        requires member { i < length self.old.elements.members }
+        requires needs { HasNeeds self.old.elements (HasRow self.old) i }
+        requires tables { AreTables self.old.elements tables.old }
+        ensures elements { self.new.elements ≡ self.old.elements }
+        ensures limit { self.new.limit ≡ self.old.limit }
+        ensures kept { (j : ℕ) → HasRow self.old j → HasRow self.new j }
+        ensures others { (j : ℕ) → j ≢ i → HasRow self.new j → HasRow self.old j }
+        ensures there { OnOk result (HasRow self.new i) }
+        ensures steps { IsWithinSteps self.old.elements i self.old.steps self.new.steps }
+        ensures made { OnOk result (IsMadeByStep self.old.elements (HasRow self.old) i
+            → IsCounted self.old.elements i self.old.steps self.new.steps) }
+        ensures counted { AreRowsCounted self.old self.new }
+        ensures fault { IfErr result (IsFault (integer_matrix self.old.elements.matrix) self.old.elements.members self.old.limit
+            (λ w. w ≡ i)) }
+        ensures tables { AreTables self.old.elements tables.new }
+    {
+        let mut steps = Steps::new();
+        let made = row(alloc, self.context(), i, self, tables, &mut steps);
+        self.add_steps(&steps);
+        self.put(i, made?)?;
+        Ok(())
     }
 
     /// How many polynomials were added up for the rows that were made here.

@@ -1,5 +1,6 @@
 -- Each correction is taken off, or its polynomial is 0.
 use Rattle.std.proofs.Common.{◌+◌, ◌<◌, length, arith}
+use Rattle.std.proofs.lemmas.Int.{ints}
 use Rattle.std.proofs.lemmas.List.{take_all}
 use Rattle.cox_base.specs.IntegerMatrix.{integer_matrix}
 use Rattle.cox_context.specs.Numbers.{word_at}
@@ -28,6 +29,19 @@ take_off-requires-clause-room c = λ d.
     c.args.ctx.now.members c.requires.closed c.args.step.now.member c.requires.step.within c.args.step.now.letter
     c.requires.step.descent c.args.step.now.corrections.items c.requires.step.numbered
     in omega (arith, c.loop-k.invariant.size d, few, l, c.requires.closed.few)
+
+pub take_off-requires-clause-u : goal.take_off-requires-clause-u
+take_off-requires-clause-u c =
+    let l : c.loop-k.k < length c.args.step.now.corrections.items = rw c.deref-correction-items.ensures.value at c.loop-k-test.true
+    in rw c.deref-correction-items.ensures.value (c.requires.step.numbered.within c.loop-k.k l)
+
+pub loop-k-init : goal.loop-k-init
+loop-k-init c = record {
+  sum = λ P gives d. omega (arith, ints);
+  size = c.requires.room;
+  steps = omega arith;
+  kept = omega arith;
+}
 
 pub loop-k-preserved : goal.loop-k-preserved
 loop-k-preserved c =

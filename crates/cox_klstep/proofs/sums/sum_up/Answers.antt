@@ -9,6 +9,7 @@ use Rattle.cox_klstep.specs.CorrectionSums.{numbered_sum}
 use Rattle.cox_row_symmetry.proofs.DescentsOnSides.{extremal-descent}
 use Rattle.cox_klstep.proofs.AddedSums.{three-sums}
 use Rattle.cox_klstep.proofs.NumberedRecursion.{below-lowered, sums-are}
+use Rattle.cox_klstep.proofs.StepCounts.{added-most}
 use Rattle.cox_klstep.proofs.sums.sum_up.Goals as goal
 
 pub returns-then-not-add-clause-below : goal.returns-then-not-add-clause-below
@@ -67,3 +68,19 @@ returns-clause-value c = λ _.
     (three-sums a b (numbered_sum P c.args.source.now.step.now.corrections.items) (coefficient c.args.sums.now) (coefficient c.add.new.sums)
     (coefficient c.add-2.new.sums) (coefficient c.correct.new.sums) c.requires.clear (c.add.ensures.sum a is_a) (c.add-2.ensures.sum b is_b)
     (c.correct.ensures.sum P gives))
+
+-- ---- what is counted
+
+pub returns-clause-steps : goal.returns-clause-steps
+returns-clause-steps c =
+    let one = c.add.ensures.one c.if-not-add.false
+    in let most = added-most c.add-2.result c.add.new.steps c.add-2.new.steps c.add-2.ensures.one c.add-2.ensures.none
+    in omega (arith, one, most, c.correct.ensures.steps)
+
+pub returns-clause-some : goal.returns-clause-some
+returns-clause-some c = λ _.
+    let one = c.add.ensures.one c.if-not-add.false
+    in omega (arith, one, c.add-2.ensures.kept, c.correct.ensures.kept)
+
+pub returns-clause-kept : goal.returns-clause-kept
+returns-clause-kept c = omega (arith, c.add.ensures.kept, c.add-2.ensures.kept, c.correct.ensures.kept)

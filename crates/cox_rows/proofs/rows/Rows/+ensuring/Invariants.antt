@@ -1,14 +1,16 @@
--- The recursion goes to smaller numbers. The corrections so far are settled.
+-- The recursion goes to smaller numbers. The members so far are settled.
 use Rattle.std.proofs.Common.{◌+◌, ◌*◌}
-use Rattle.cox_context.specs.Numbers.{word_at}
 use Rattle.cox_rows.proofs.EnsuredNeeds.{IsUnderWay}
 use Rattle.cox_rows.proofs.rows.Rows.+ensuring.Given as goal
 
 abbrev pub decreases-ensure_until : goal.decreases-ensure_until
-decreases-ensure_until l = 2 * l.i + 1
+decreases-ensure_until l = 3 * l.i + 2
 
 abbrev pub decreases-ensure_lower : goal.decreases-ensure_lower
-decreases-ensure_lower l = 2 * l.i
+decreases-ensure_lower l = 3 * l.i + 1
 
-abbrev pub invariant-ensure_lower-each : goal.invariant-ensure_lower-each
-invariant-ensure_lower-each l = IsUnderWay (word_at l.fn.self.elements.members l.i) l.fn.self l.initial.self l.self l.u-items l.u-index
+abbrev pub decreases-ensure_each : goal.decreases-ensure_each
+decreases-ensure_each l = 3 * l.i
+
+abbrev pub invariant-ensure_each-each : goal.invariant-ensure_each-each
+invariant-ensure_each-each l = IsUnderWay l.i l.fn.self l.self l.numbers l.u-index
