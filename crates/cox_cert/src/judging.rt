@@ -43,8 +43,8 @@ fn first_cause(alloc: Global, draft: &Draft) -> Result<Option<Cause>, AllocError
     }
 }
 
-/// The first cause that applies where the element and the words are right. Memory runs out only where no polynomial is too large, that of
-/// the element is 1 and the degrees of the others are low: any other row that is wrong is told as that.
+/// The first cause that applies where the element and the words are right. That a polynomial is too large, that the one at the element is
+/// not 1, or that a degree is too high for a row, is told without memory.
 fn cause_within(
     alloc: Global,
     draft: &Draft,
