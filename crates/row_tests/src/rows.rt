@@ -108,7 +108,7 @@ fn begins_a_long_row(rt: HostRuntime) -> Result<(), Fail> {
 
 /// In the infinite dihedral group an element of length n needs the rows of one of length n - 1 and of one of length n - 2. A walk that went
 /// over these again and again would not come to an end in a lifetime. Where nothing may be added up, no row is begun behind the first one
-/// that takes it; and so it is once more, for what is counted begins anew with each call. The rest is made afterwards.
+/// that takes it. A second call begins one more, since each call counts from where it starts. The rest is made afterwards.
 fn begins_the_last_row(rt: &impl Abort, rows: &mut Rows) {
     assert!(rt; rows.context().len() == 120);
     assert!(rt; !rows.begin(119, 0) && !rows.has(119) && rows.steps() > 0);
