@@ -21,3 +21,11 @@ pub mod PolynomialValues
 pub mod StepFamilies
 pub mod NeededElements
 pub mod Expansion
+pub mod BarOperator
+pub mod Signs
+pub mod BasisElements
+pub mod SignedBasis
+pub mod ProductLaws
+pub mod SumsOfProducts
+pub mod RInversion
+pub mod BarTwice

@@ -12,8 +12,11 @@ use Rattle.cox_base.specs.Element.{SameElement}
 use Rattle.cox_base.specs.ShortLex.{normal_form}
 use Rattle.cox_reflect.proofs.Elements.{same-refl, same-sym, same-trans, same-equal}
 use Rattle.cox_reflect.proofs.Search.{normal_form-same, normal_form-equal}
-use Rattle.cox_poly.specs.Coefficients.{zero_polynomial, plus, times_q}
+use Rattle.cox_poly.specs.Coefficients.{Coefficients, zero_polynomial, plus, times_q}
 use Rattle.cox_poly.specs.Multiples.{minus, scaled}
+use Rattle.cox_poly.specs.Products.{flip}
+use Rattle.cox_poly.specs.Size.{HasDegreeAtMost}
+use Rattle.cox_poly.proofs.Coefficients.{flip-none, flip-plus}
 use Rattle.cox_lemmas.proofs.Ring.{mul_add}
 use Rattle.cox_hecke.specs.Family.{Family, RespectsElements}
 use Rattle.cox_hecke.specs.Sums.{sum_over}
@@ -54,6 +57,17 @@ sum_over-times_q [] f zero = refl
 sum_over-times_q [] f (suc k) = refl
 sum_over-times_q (y ∷ words) f zero = omega (arith, ints, sum_over-times_q words f zero)
 sum_over-times_q (y ∷ words) f (suc k) = omega (arith, ints, sum_over-times_q words f (suc k))
+
+-- a sum, flipped
+pub flip-sum_over : (d : ℕ) (words : List (List ℕ)) (f : Family) (k : ℕ)
+    → flip d (sum_over words f) k ≡ sum_over words (λ z. flip d (f z)) k
+flip-sum_over d [] f k = ap (λ (h : Coefficients). h k) (flip-none d)
+flip-sum_over d (y ∷ words) f k =
+    ap (λ (h : Coefficients). h k) (flip-plus d (f y) (sum_over words f)) ∙ (λ i. flip d (f y) k +ℤ flip-sum_over d words f k i)
+
+pub sum_over-degree : (words : List (List ℕ)) (f : Family) (n : ℕ) → ((y : List ℕ) → HasDegreeAtMost (f y) n)
+    → HasDegreeAtMost (sum_over words f) n
+sum_over-degree words f n low k above = sum_over-none words f k (λ y. low y k above)
 
 pub sum_over-swap : (ys zs : List (List ℕ)) (f : List ℕ → Family) (k : ℕ)
     → sum_over ys (λ y. sum_over zs (f y)) k ≡ sum_over zs (λ z. sum_over ys (λ y. f y z)) k

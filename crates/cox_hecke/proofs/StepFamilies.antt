@@ -1,5 +1,5 @@
 -- Step families: by any descent, on either side, there is one, and it is the row.
-use Rattle.std.proofs.Common.{◌≡◌, ℕ, if◌then◌else◌, List, sym, subst, refl, ◌∙◌}
+use Rattle.std.proofs.Common.{◌≡◌, ℕ, List, sym, subst, refl, ◌∙◌}
 use Rattle.std.specs.Prelude.{All}
 use Rattle.cox_base.specs.declared.side.Side.{Side}
 use Rattle.cox_base.specs.declared.side.Side.TheVariants.{Left, Right}

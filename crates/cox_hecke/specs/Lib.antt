@@ -1,6 +1,7 @@
 pub mod Family
 pub mod Operators
 pub mod Sums
+pub mod Bar
 pub mod ListedElements
 pub mod ClosedLists
 pub mod Row

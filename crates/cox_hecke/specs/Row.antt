@@ -12,7 +12,7 @@ use Rattle.cox_hecke.specs.Sums.{bar_sum}
 
 -- p is the row of w: p(w) = 1; 2 deg p(x) + 1 ≤ l(w) - l(x) where x is shorter than w; p(x) = 0 unless x ≤ w; and for each x ≤ w,
 -- with d = l(w) - l(x), q^d p(x)(1/q) is the sum of R(x,y) p(y) over the y with x ≤ y ≤ w.
--- The last says that q^(-l(w)/2) times the sum of the p(x) T(x) is its own image under bar.
+-- The last says that q^(-l(w)/2) times the sum of the p(x) T(x) is its own image under bar: the law `bar_invariance`.
 pub record IsRow (A : IntegerMatrix) (w : List ℕ) (p : Family) : Type 0 where
   pub element : RespectsElements A p
   pub outside : (x : List ℕ) → ¬ IsBelow A x w → (k : ℕ) → p x k ≡ pos 0

@@ -11,7 +11,7 @@ abbrev pub sum_over : List (List ℕ) → Family → Coefficients
 sum_over [] f = zero_polynomial
 sum_over (y ∷ words) f = plus (f y) (sum_over words f)
 
--- The sum of R(x,y) h(y). Bar sends q to 1/q and T(y) to T(y^-1)^-1, which is the sum over x of (-1)^(l(y)-l(x)) q^-l(y) R(x,y) T(x)
--- (Humphreys 7.4). So these sums are, up to signs and powers of q, the coefficients of the T(x) in bar of a combination of the T(y).
+-- The sum of R(x,y) h(y). For a combination h of the T(y) over these words, q^-l(x) times bar of this sum is the coefficient of T(x) in bar
+-- of h (Humphreys 7.4): `bar` says what that is.
 abbrev pub bar_sum : IntegerMatrix → List (List ℕ) → Family → Family
 bar_sum A words h x = sum_over words (λ y. product (r_polynomial A x y) (h y))

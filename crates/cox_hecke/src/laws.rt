@@ -1,7 +1,7 @@
 //! The laws of the Hecke algebra and of Kazhdan-Lusztig polynomials, for every admissible integer matrix A. Each function does nothing: its
 //! clauses are theorems. Elements are given by words; `left A s h` is T(s) h, by coefficients.
 
-ghost use Rattle.std.specs.Prelude.{◌≡◌, ◌≢◌, ℕ, ◌+◌, ◌-◌, List, [], ◌∷◌, ◌++◌, length, reverse, All, ℤ, pos};
+ghost use Rattle.std.specs.Prelude.{◌≡◌, ◌≢◌, ℕ, ◌+◌, ◌-◌, ◌*◌, ◌<◌, ◌≤◌, List, [], ◌∷◌, ◌++◌, length, reverse, All, ℤ, pos};
 ghost use Rattle.cox_base.specs.declared.side.Side.{Side};
 ghost use Rattle.cox_base.specs.declared.side.Side.TheVariants.{Left};
 ghost use Rattle.cox_base.specs.Matrix.{IsLetter};
@@ -15,7 +15,7 @@ ghost use Rattle.cox_base.specs.Bruhat.{IsBelow};
 ghost use Rattle.cox_base.specs.SortedList.{IsListOf};
 ghost use Rattle.cox_base.specs.Interval.{IsBetween};
 ghost use Rattle.cox_reflect.specs.LeastDescent.{IsLeastLeftDescent};
-ghost use Rattle.cox_poly.specs.Coefficients.{Coefficients, plus, times_q, times_q_less_one};
+ghost use Rattle.cox_poly.specs.Coefficients.{Coefficients, one_polynomial, plus, times_q, times_q_less_one};
 ghost use Rattle.cox_poly.specs.Products.{flip};
 ghost use Rattle.cox_poly.specs.Multiples.{minus};
 ghost use Rattle.cox_rpoly.specs.RPolynomial.{r_polynomial};
@@ -24,6 +24,7 @@ ghost use Rattle.cox_rpoly.specs.Sign.{times_sign};
 ghost use Rattle.cox_hecke.specs.Family.{Family, RespectsElements};
 ghost use Rattle.cox_hecke.specs.Operators.{basis, left, right, right_inverse, left_word, right_word};
 ghost use Rattle.cox_hecke.specs.Sums.{bar_sum};
+ghost use Rattle.cox_hecke.specs.Bar.{IsCombination, bar};
 ghost use Rattle.cox_hecke.specs.ClosedLists.{IsClosedUnder};
 ghost use Rattle.cox_hecke.specs.Row.{IsRow, IsKazhdanLusztig, IsMu};
 ghost use Rattle.cox_hecke.specs.ListedElements.{ListsEach, LiesBetween};
@@ -80,7 +81,7 @@ pub fn words()
 {}
 
 /// Bar respects multiplication by 1 + T(s): the sums of R(x,y) h(y), over a list that is closed under s, give those of (1 + T(s)) h.
-pub fn bar()
+pub fn bar_sums()
     ensures product { (A : IntegerMatrix) (s : ℕ) (h : Family) (x : List ℕ) (k : ℕ) → step Left A s h x k ≡ plus (h x) (left A s h x) k }
     ensures shorter { (A : IntegerMatrix) → IsAdmissible A → (s : ℕ) (h : Family) (words : List (List ℕ)) → IsLetter A.rank s
         → RespectsElements A h → IsClosedUnder A s words → (x : List ℕ) (k : ℕ) → IsLeftDescent A x s
@@ -88,6 +89,32 @@ pub fn bar()
     ensures longer { (A : IntegerMatrix) → IsAdmissible A → (s : ℕ) (h : Family) (words : List (List ℕ)) → IsLetter A.rank s
         → RespectsElements A h → IsClosedUnder A s words → (x : List ℕ) (k : ℕ) → ¬ IsLeftDescent A x s
         → bar_sum A words (step Left A s h) x k ≡ times_q (plus (bar_sum A words h x) (bar_sum A words h (s ∷ x))) k }
+{}
+
+/// Bar takes combinations of the T(x) with x <= w to such combinations, and is its own inverse (Kazhdan and Lusztig 1979, section 1; Humphreys
+/// 7.7). With `n` it is q^n times bar that is meant, on either side.
+pub fn bar_involution()
+    ensures combination { (A : IntegerMatrix) → IsAdmissible A → (n : ℕ) (w : List ℕ) (h : Family) → IsCombination A n w h
+        → (words : List (List ℕ)) → ListsEach A (λ y. IsBelow A y w) words → IsCombination A n w (bar A n words h) }
+    ensures twice { (A : IntegerMatrix) → IsAdmissible A → (n : ℕ) (w : List ℕ) (h : Family) → IsCombination A n w h
+        → (words : List (List ℕ)) → ListsEach A (λ y. IsBelow A y w) words
+        → (x : List ℕ) (k : ℕ) → bar A n words (bar A n words h) x k ≡ h x k }
+{}
+
+/// Rows and bar (Kazhdan and Lusztig 1979, theorem 1.1; Humphreys 7.9). Let h be the combination of the T(x) with x <= w whose coefficients
+/// are the row of w. Then q^l(w) times bar of h is h: so bar leaves q^(-l(w)/2) h alone. And a combination of the T(x) with x <= w that bar
+/// leaves alone so is the row of w, where it is 1 at w and keeps the bound on degrees. That there is exactly one such is the law `rows`.
+pub fn bar_invariance()
+    ensures combination { (A : IntegerMatrix) → IsAdmissible A → (w : List ℕ) (p : Family) → IsRow A w p
+        → IsCombination A (word_length A w) w p }
+    ensures fixed { (A : IntegerMatrix) → IsAdmissible A → (w : List ℕ) (p : Family) → IsRow A w p
+        → (words : List (List ℕ)) → ListsEach A (λ y. IsBelow A y w) words
+        → (x : List ℕ) (k : ℕ) → bar A (word_length A w) words p x k ≡ p x k }
+    ensures only { (A : IntegerMatrix) → IsAdmissible A → (w : List ℕ) (p : Family) → IsCombination A (word_length A w) w p
+        → ((k : ℕ) → p w k ≡ one_polynomial k)
+        → ((x : List ℕ) (k : ℕ) → word_length A x < word_length A w → word_length A w ≤ word_length A x + 2 * k → p x k ≡ pos 0)
+        → (words : List (List ℕ)) → ListsEach A (λ y. IsBelow A y w) words
+        → ((x : List ℕ) (k : ℕ) → bar A (word_length A w) words p x k ≡ p x k) → IsRow A w p }
 {}
 
 /// R obeys its recursion for every left descent and for every right descent of w; it is the same at inverses; and

@@ -22,7 +22,7 @@ use Rattle.cox_hecke.proofs.AllRows.{row_of, row_of-is}
 use Rattle.cox_inverse.specs.InverseRow.{IsInverseRow, IsInverse}
 use Rattle.cox_inverse.proofs.InverseSums.{term, other_term, other_terms-none, term_sum-split}
 use Rattle.cox_inverse.proofs.OneInverseRow.{inverse_row-any_list}
-use Rattle.cox_inverse.proofs.BasisElements.{basis-other}
+use Rattle.cox_hecke.proofs.BasisElements.{basis-other}
 use Rattle.cox_inverse.proofs.InverseRowExists.{inverse_row-top}
 
 -- a product of polynomials of degrees below d/2 and e/2 has, unless d or e is 0, a degree below (d+e-1)/2

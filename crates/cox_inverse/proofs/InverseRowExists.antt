@@ -20,7 +20,7 @@ use Rattle.cox_hecke.proofs.ListSums.{sum_over-equal, same-is_same}
 use Rattle.cox_hecke.proofs.ElementLists.{Tells-ListsEach, below_list}
 use Rattle.cox_hecke.proofs.AllRows.{row_of, row_of-is}
 use Rattle.cox_inverse.specs.InverseRow.{signed_term, IsInverseRow}
-use Rattle.cox_inverse.proofs.BasisElements.{basis-own, basis-other, basis-respects}
+use Rattle.cox_hecke.proofs.BasisElements.{basis-own, basis-other, basis-respects}
 use Rattle.cox_inverse.proofs.InverseSums.{term-rows, term-own, term_sum-split, other_term, other_term-same}
 use Rattle.cox_inverse.proofs.InverseSums.{other_terms-equal, other_terms-none}
 use Rattle.cox_inverse.proofs.OneInverseRow.{inverse_row-any_list, inverse_row-from, inverse_row-unique}

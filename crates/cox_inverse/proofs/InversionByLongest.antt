@@ -30,7 +30,7 @@ use Rattle.cox_hecke.specs.Family.{Family, RespectsElements}
 use Rattle.cox_hecke.specs.Sums.{sum_over, bar_sum}
 use Rattle.cox_hecke.specs.Row.{IsRow, IsKazhdanLusztig}
 use Rattle.cox_hecke.specs.ListedElements.{is_same, occurrences, LiesBetween}
-use Rattle.cox_hecke.proofs.ListSums.{sum_over-equal, sum_over-none, sum_over-plus, sum_over-scaled, sum_over-one}
+use Rattle.cox_hecke.proofs.ListSums.{sum_over-equal, sum_over-none, sum_over-plus, sum_over-scaled, sum_over-one, flip-sum_over}
 use Rattle.cox_hecke.proofs.ListSums.{same_or_not, same-is_same, is_same-same, not_same-is_same}
 use Rattle.cox_hecke.proofs.ElementLists.{Tells-ListsEach, below_list, below_or_not, sorted-once}
 use Rattle.cox_hecke.proofs.Balance.{bar_sum-plus}
@@ -41,12 +41,12 @@ use Rattle.cox_inverse.specs.InverseRow.{signed_term, IsInverseRow, IsInverse}
 use Rattle.cox_inverse.specs.Longest.{IsLongest}
 use Rattle.cox_inverse.proofs.InverseSums.{above-longer}
 use Rattle.cox_inverse.proofs.OneInverseRow.{inverse_row-from}
-use Rattle.cox_inverse.proofs.Signs.{sign, times_sign-scaled, sign-less}
-use Rattle.cox_inverse.proofs.SumsOfProducts.{sums-exchanged, sums-exchanged_back, flip-sum_over}
-use Rattle.cox_inverse.proofs.RInversion.{signed_r, signed_r-respects, signed_r-outside, r-inversion}
+use Rattle.cox_hecke.proofs.Signs.{sign, times_sign-scaled, sign-less}
+use Rattle.cox_hecke.proofs.SumsOfProducts.{sums-exchanged, sums-exchanged_back}
+use Rattle.cox_hecke.proofs.RInversion.{signed_r, signed_r-respects, signed_r-outside, r-inversion}
 use Rattle.cox_hecke.proofs.AllRows.{row_of, row_of-is}
-use Rattle.cox_inverse.proofs.SignedBasis.{signed_basis, signed_basis-own, signed_basis-other, signed_basis-respects, signed_basis-first}
-use Rattle.cox_inverse.proofs.SignedBasis.{signed_basis-unsigned, signed_basis-flip}
+use Rattle.cox_hecke.proofs.SignedBasis.{signed_basis, signed_basis-own, signed_basis-other, signed_basis-respects, signed_basis-first}
+use Rattle.cox_hecke.proofs.SignedBasis.{signed_basis-unsigned, signed_basis-flip}
 use Rattle.cox_inverse.proofs.TurnedPolynomials.{NamesBelow, kl-row, kl-none, kl-one, kl-low, turned, turned-respects, turned-first}
 use Rattle.cox_inverse.proofs.TurnedPolynomials.{turned-none, turned-one, signed_turned, signed_turned-respects, signed_turned-none}
 use Rattle.cox_inverse.proofs.TurnedPolynomials.{signed_turned-low, signed_turned-bar, signed_back, signed_back-none}

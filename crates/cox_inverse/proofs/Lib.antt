@@ -1,15 +1,9 @@
-pub mod ProductLaws
-pub mod BasisElements
 pub mod InverseSums
 pub mod OneInverseRow
 pub mod InverseRowExists
 pub mod InversePolynomials
 pub mod InverseDegree
 pub mod OtherSide
-pub mod Signs
-pub mod SumsOfProducts
-pub mod SignedBasis
-pub mod RInversion
 pub mod LongestWord
 pub mod TurnedAround
 pub mod TurnedPolynomials

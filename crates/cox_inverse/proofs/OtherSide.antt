@@ -29,10 +29,10 @@ use Rattle.cox_hecke.proofs.ElementLists.{Tells-ListsEach, below_list, below_or_
 use Rattle.cox_hecke.proofs.OneRow.{between_or_not}
 use Rattle.cox_hecke.proofs.AllRows.{row_of, row_of-is, row_of-same, row_of-value}
 use Rattle.cox_inverse.specs.InverseRow.{IsInverseRow}
-use Rattle.cox_inverse.proofs.ProductLaws.{product-sum_over, sum_over-product, times_sign-product, product-times_sign}
+use Rattle.cox_hecke.proofs.ProductLaws.{product-sum_over, sum_over-product, times_sign-product, product-times_sign}
 use Rattle.cox_inverse.proofs.InverseSums.{term, term-apart, term-none, named-below, term_sums-determine}
 use Rattle.cox_inverse.proofs.OneInverseRow.{inverse_row-any_list, inverse_row-same, inverse_row-unique}
-use Rattle.cox_inverse.proofs.BasisElements.{basis-own, basis-other, basis-respects}
+use Rattle.cox_hecke.proofs.BasisElements.{basis-own, basis-other, basis-respects}
 
 module _ (A : IntegerMatrix) (g : IsAdmissible A) (inverses : List ℕ → Family) (are : (z : List ℕ) → IsInverseRow A z (inverses z)) where
   inverses-same : {y z : List ℕ} → SameElement A y z → inverses y ≡ inverses z

@@ -31,7 +31,7 @@ use Rattle.cox_hecke.proofs.OneRow.{row-bar, row-long}
 use Rattle.cox_hecke.proofs.PolynomialValues.{kl_polynomial, kl_polynomial-is_row}
 use Rattle.cox_hecke.proofs.PolynomialValues.{kl_polynomial-same, kl_polynomial-outside}
 use Rattle.cox_inverse.specs.Longest.{IsLongest}
-use Rattle.cox_inverse.proofs.Signs.{sign}
+use Rattle.cox_hecke.proofs.Signs.{sign}
 use Rattle.cox_inverse.proofs.LongestWord.{longest-length, turned-back, turned-same}
 use Rattle.cox_inverse.proofs.TurnedAround.{turned-below, below-turned, turned-r}
 

@@ -1,13 +1,12 @@
--- Sums of products: their order can be exchanged, and they are flipped term by term.
-use Rattle.std.proofs.Common.{◌≡◌, ℕ, ◌+ℤ◌, List, [], ◌∷◌, ap, sym, ◌∙◌}
+-- Sums of products: their order can be exchanged.
+use Rattle.std.proofs.Common.{◌≡◌, ℕ, List, ap, sym, ◌∙◌}
 use Rattle.cox_poly.specs.Coefficients.{Coefficients}
-use Rattle.cox_poly.specs.Products.{product, flip}
-use Rattle.cox_poly.proofs.Coefficients.{flip-none, flip-plus}
+use Rattle.cox_poly.specs.Products.{product}
 use Rattle.cox_poly.proofs.Products.{product-comm, product-associative}
 use Rattle.cox_hecke.specs.Family.{Family}
 use Rattle.cox_hecke.specs.Sums.{sum_over}
 use Rattle.cox_hecke.proofs.ListSums.{sum_over-equal, sum_over-swap}
-use Rattle.cox_inverse.proofs.ProductLaws.{product-sum_over, sum_over-product}
+use Rattle.cox_hecke.proofs.ProductLaws.{product-sum_over, sum_over-product}
 
 -- the sum over z of (the sum over y of r(y) f(y,z)) t(z)
 pub sums-exchanged : (words : List (List ℕ)) (r : Family) (f : List ℕ → Family) (t : Family) (k : ℕ)
@@ -37,10 +36,3 @@ sums-exchanged_back words r f t k =
     (λ y. product (r y) (sum_over words (λ z. product (t z) (f y z)))) k
     (λ y. ap (λ (h : Coefficients). product (r y) h k) (λ i j. sum_over-equal words (λ z. product (f y z) (t z))
     (λ z. product (t z) (f y z)) j (λ z. product-comm (f y z) (t z) j) i))
-
--- a sum, flipped
-pub flip-sum_over : (d : ℕ) (words : List (List ℕ)) (f : Family) (k : ℕ)
-    → flip d (sum_over words f) k ≡ sum_over words (λ z. flip d (f z)) k
-flip-sum_over d [] f k = ap (λ (h : Coefficients). h k) (flip-none d)
-flip-sum_over d (y ∷ words) f k =
-    ap (λ (h : Coefficients). h k) (flip-plus d (f y) (sum_over words f)) ∙ (λ i. flip d (f y) k +ℤ flip-sum_over d words f k i)

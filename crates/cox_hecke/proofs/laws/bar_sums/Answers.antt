@@ -1,7 +1,7 @@
 -- Each clause is a lemma on the sums of R(x,y) h(y).
 use Rattle.cox_hecke.proofs.OperatorLaws.{step-sum}
 use Rattle.cox_hecke.proofs.BarSums.{bar-descent, bar-ascent}
-use Rattle.cox_hecke.proofs.laws.bar.Goals as goal
+use Rattle.cox_hecke.proofs.laws.bar_sums.Goals as goal
 
 pub returns-clause-product : goal.returns-clause-product
 returns-clause-product c = step-sum

@@ -41,9 +41,9 @@ use Rattle.cox_hecke.proofs.BarSums.{bar-shorter, bar-longer, step-shorter, step
 use Rattle.cox_hecke.proofs.Balance.{bar_sum-minus, bar_sum-times_q_power}
 use Rattle.cox_hecke.proofs.OneRow.{bar_sum-lists}
 use Rattle.cox_hecke.proofs.OperatorLaws.{unit-basis}
-use Rattle.cox_inverse.proofs.BasisElements.{basis-other}
-use Rattle.cox_inverse.proofs.Signs.{sign}
-use Rattle.cox_inverse.proofs.SignedBasis.{signed_basis}
+use Rattle.cox_hecke.proofs.BasisElements.{basis-other}
+use Rattle.cox_hecke.proofs.Signs.{sign}
+use Rattle.cox_hecke.proofs.SignedBasis.{signed_basis}
 
 -- (-1)^l(y) R(y,w)
 abbrev pub signed_r : IntegerMatrix → List ℕ → Family

@@ -14,8 +14,8 @@ use Rattle.cox_poly.proofs.Coefficients.{flip-none, flip-one, flip-scaled}
 use Rattle.cox_hecke.specs.Family.{Family, RespectsElements}
 use Rattle.cox_hecke.specs.Operators.{basis}
 use Rattle.cox_hecke.proofs.ListSums.{same_or_not, is_same-respects}
-use Rattle.cox_inverse.proofs.BasisElements.{basis-own, basis-other, basis-respects}
-use Rattle.cox_inverse.proofs.Signs.{sign, sign-twice}
+use Rattle.cox_hecke.proofs.BasisElements.{basis-own, basis-other, basis-respects}
+use Rattle.cox_hecke.proofs.Signs.{sign, sign-twice}
 
 -- (-1)^l(w) T(w)
 abbrev pub signed_basis : IntegerMatrix → List ℕ → Family
