@@ -3,16 +3,17 @@
 
     checks/gate_table.py [--write] COMMAND..       as checks/gate_table.py --write .ci/run
     checks/gate_table.py [--write] --log FILE      of a gate that writes into FILE, and runs already or has ended
-    checks/gate_table.py --above                   what a change in each crate costs, by the table of docs/DECISIONS.md
+    checks/gate_table.py --above                   what a change in each crate costs, by the figures of checks/gate.csv
 
 What `rt ci` prints has no times, so its processes are looked at four times a second. Each that runs `rattle` names its crate, and one that
 tries an edit stands in a folder of its own. Their times are those of the kernel, with those of processes that they have ended; what ends
 between two looks is lost, a quarter of a second at most each time.
 
-It prints a row for each crate, as the table of docs/DECISIONS.md has them: its proof with that of its tests, its edits, both together, and
-the commit that is checked out. With --write it puts the rows there, and what the gate printed last into README.md. A proof, or edits, that
-the gate kept from an earlier run keep their minutes. A crate that is gone loses its row. Of a gate that has ended only what it printed is
-known. The exit status is that of the command. It needs Python 3 and Linux alone, and is no part of the gate.
+It prints a row for each crate, as checks/gate.csv has them: the minutes of its proof with that of its tests, those of its edits, and the
+commit that is checked out. With --write it puts the rows there, a summary into docs/DECISIONS.md, and what the gate printed last into
+README.md. A proof, or edits, that the gate kept from an earlier run keep their minutes. A crate that is gone loses its row. Of a gate that
+has ended only what it printed is known. The exit status is that of the command. It needs Python 3 and Linux alone, and is no part of the
+gate.
 
 With --above it runs nothing. A change in a crate proves that crate and all that stand on it anew: the minutes of these are added up.
 """
@@ -29,8 +30,9 @@ import time
 from common import TOP
 
 DECISIONS, README = os.path.join(TOP, "docs", "DECISIONS.md"), os.path.join(TOP, "README.md")
-HEAD = "| crate | proof, with tests | edits | all | commit |\n|---|---|---|---|---|\n"
-ROW = re.compile(r"^\| `(\w+)` \| ([0-9.]*) \| ([0-9.]*) \| [0-9.]+ \| (\w*) \|$", re.M)
+FIGURES = os.path.join(TOP, "checks", "gate.csv")
+HEAD = "crate,proof,edits,commit\n"
+ROW = re.compile(r"^(\w+),([0-9.]+),([0-9.]+),(\w+)$", re.M)
 SUMMARY = re.compile(r"The last run that was measured so is of commit .*?\n\n", re.S)
 # What README.md says of the gate, and behind it what that has printed.
 PRINTED = re.compile(r"(by the\s+developers' gate .*?is refused\.\n)(\nAt commit `\w+` it printed\n\n(?:    [^\n]*\n)+)?", re.S)
@@ -156,7 +158,7 @@ def watched(command, log):
 
 def above():
     """Of each crate how many stand on it, and the minutes of it and of these, the most first."""
-    minutes = {crate: float(proof or 0) + float(edits or 0) for crate, proof, edits, _ in ROW.findall(read(DECISIONS))}
+    minutes = {crate: float(proof) + float(edits) for crate, proof, edits, _ in ROW.findall(read(FIGURES))}
     below = {crate: names.split() for crate, names in re.findall(r"^(\w+)[^:\n]*:(.*)$", read(os.path.join(TOP, "crates.txt")), re.M)}
 
     def stands_on(crate, lower):
@@ -187,21 +189,19 @@ def main():
     kept = re.findall(r"^rt: (\w+) is kept:", printed, re.M)
     tried = re.findall(r"^rt: (\w+): [0-9]+ of its [0-9]+ must-fail edits were tried by an earlier run", printed, re.M)
     commit = subprocess.run(["git", "rev-parse", "--short=8", "HEAD"], cwd=TOP, stdout=subprocess.PIPE, text=True).stdout.strip()
-    document = read(DECISIONS)
-    rows = {crate: (float(proof or 0), float(edits or 0), of) for crate, proof, edits, of in ROW.findall(document) if crate in crates()}
+    rows = {crate: (float(proof), float(edits), of) for crate, proof, edits, of in ROW.findall(read(FIGURES)) if crate in crates()}
     for crate, (proof, edits) in watch.minutes().items():
         if crate in crates() and not (crate in kept and (crate in tried or not edits)):
             before = rows.get(crate, (0.0, 0.0, commit))
             rows[crate] = (before[0] if crate in kept else proof, before[1] if crate in tried else edits, commit)
-    shown = lambda minutes: f"{minutes:.1f}" if minutes >= 0.05 else ""
     table = HEAD
     for crate, (proof, edits, of) in sorted(rows.items(), key=lambda row: -sum(row[1][:2])):
-        table += f"| `{crate}` | {shown(proof)} | {shown(edits)} | {proof + edits:.1f} | {of} |\n"
+        table += f"{crate},{proof:.1f},{edits:.1f},{of}\n"
     proofs, edits = (sum(row[place] for row in rows.values()) for place in (0, 1))
-    table += f"| together | {proofs:.1f} | {edits:.1f} | {proofs + edits:.1f} | |\n"
     summary = f"The last run that was measured so is of commit {commit}: {len(crates())} crates, {len(kept)} of them kept from earlier runs, "
     summary += f"{clock:.0f} minutes of the clock on {os.cpu_count()} processors"
-    summary += f", and {(used.ru_utime + used.ru_stime) / 60:.0f} of processor time.\n" if given.command else ".\n"
+    summary += f", and {(used.ru_utime + used.ru_stime) / 60:.0f} of processor time. " if given.command else ". "
+    summary += f"By checks/gate.csv proofs take {proofs:.1f} minutes, and edits {edits:.1f}: {proofs + edits:.1f} together.\n"
     summary = textwrap.fill(summary, 100) + "\n"
     last = re.findall(r"^(?:rt: ok; .*|[0-9]+ passed.*)$", printed, re.M)
     print(f"\n{table}\n{summary}")
@@ -209,8 +209,8 @@ def main():
     if missing:
         print(f"no figures of {' '.join(missing)}: the gate kept what it had proved of them before")
     if given.write and watch.ticks:
-        new = re.sub(re.escape(HEAD) + r"(?:\|.*\n)*", lambda _: table, document)
-        write(DECISIONS, SUMMARY.sub(lambda _: summary + "\n", new))
+        write(FIGURES, table)
+        write(DECISIONS, SUMMARY.sub(lambda _: summary + "\n", read(DECISIONS)))
     if given.write and last and last[-1].endswith(" 0 failed"):
         told = f"\nAt commit `{commit}` it printed\n\n" + "".join(f"    {line}\n" for line in last)
         write(README, PRINTED.sub(lambda found: found.group(1) + told, read(README), count=1))

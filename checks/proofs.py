@@ -1,13 +1,15 @@
 #!/usr/bin/env python3
 """Compares docs/PROOFS.md with the proof files: nothing is to be missing, and nothing to be named that is not there.
 
-    checks/proofs.py [--write]
+    checks/proofs.py
+    checks/proofs.py --files CRATE ..
 
 In the section of each crate the table has each law of src/laws.rt, with the lemmas that its Answers.antt takes from the
-proof files of the crate; and the lists have each file of proofs/ once, after the files of the crate that it uses, with
-what the first lines of the file say of it. With --write these lists are written: what is said of each file is taken from
-the file, those that are gone go, and those that are new come at the end of the section's last list. It prints what
-is wrong, and a last line with counts; the exit status is 1 where something is wrong. It needs Python 3 alone.
+proof files of the crate. Each file of lemmas begins with a comment that says what it has. It prints what is wrong, and a
+last line with counts; the exit status is 1 where something is wrong.
+
+With --files it prints the files of lemmas of these crates in an order in which a file needs only those above it, each
+with what it says of itself. It needs Python 3 alone.
 """
 import os
 import re
@@ -48,27 +50,28 @@ def files_of(crate):
     return {it[:-5]: os.path.join(folder, it) for it in sorted(names) if it.endswith(".antt") and it != "Lib.antt"}
 
 
-# A file in a list, with what is said of it, in as many lines as it has.
-ITEM = re.compile(r"^- `(\w+)`: (.*(?:\n  \S.*)*)\n", re.M)
+def in_order(crate):
+    """The files of lemmas of a crate, each behind those of the crate that it uses; else by name."""
+    files, ordered = files_of(crate), []
+
+    def add(name, above):
+        if name in above:
+            raise ValueError(f"{crate}: {name} uses itself, by {' '.join(above)}")
+        if name in files and name not in ordered:
+            for other in sorted({file for used, file, _ in uses(files[name]) if used == crate}):
+                add(other, [*above, name])
+            ordered.append(name)
+
+    for name in files:
+        add(name, [])
+    return ordered
 
 
-def item(name, path):
-    """The lines of a list that name a file."""
-    text = f"- `{name}`: {said(path)}"
-    lines = textwrap.wrap(text, 100, subsequent_indent="  ", break_long_words=False, break_on_hyphens=False)
-    return "\n".join(lines) + "\n"
-
-
-def written(crate, section):
-    """The section of a crate with its lists as the files have them."""
-    files = files_of(crate)
-    listed = re.findall(r"^- `(\w+)`", section, re.M)
-    section = ITEM.sub(lambda it: item(it.group(1), files[it.group(1)]) if it.group(1) in files else "", section)
-    new = "".join(item(name, path) for name, path in files.items() if name not in listed)
-    ends = [it.end() for it in ITEM.finditer(section)]
-    if not new:
-        return section
-    return section[: ends[-1]] + new + section[ends[-1] :] if ends else section.rstrip("\n") + "\n\n" + new + "\n"
+def show_files(crate):
+    """Prints what each file of lemmas of a crate says of itself."""
+    print(f"{crate}:")
+    for name in in_order(crate):
+        print(textwrap.fill(f"- {name}: {said(files_of(crate)[name])}", 100, subsequent_indent="  ", break_on_hyphens=False))
 
 
 class Problems:
@@ -103,45 +106,36 @@ def check_laws(problems, crate, section):
             problems.say(f"{crate}: the row of {law} does not name {' '.join(sorted(wanted - rows[law]))}")
 
 
-def check_files(problems, crate, section):
-    """Each file of lemmas is listed, after those that it uses."""
-    listed = re.findall(r"^- `(\w+)`", section, re.M)
-    files = files_of(crate)
-    problems.files += len(files)
-    for name in sorted(set(listed) ^ set(files)):
-        problems.say(f"{crate}: {name} is {'not there' if name in listed else 'not listed'}")
-    for name, text in ITEM.findall(section):
-        if name in files and " ".join(text.split()) != said(files[name]):
-            problems.say(f"{crate}: of {name} it is said: {' '.join(text.split())}\n  its file says: {said(files[name])}")
-    if len(listed) > len(set(listed)):
-        problems.say(f"{crate}: a file is listed twice")
-    for name in set(files) & set(listed):
-        for other, file, _ in uses(files[name]):
-            if other == crate and file in listed and listed.index(file) > listed.index(name):
-                problems.say(f"{crate}: {name} uses {file}, which is listed after it")
+def check_files(problems, crate):
+    """Each file of lemmas says what it has."""
+    for name, path in files_of(crate).items():
+        problems.files += 1
+        if not said(path):
+            problems.say(f"{crate}: {name} begins with no comment")
 
 
 SECTION = re.compile(r"^## `(\w+)`\n(.*?)(?=^## |\Z)", re.M | re.S)
 
 
 def main():
-    if sys.argv[1:] not in ([], ["--write"]):
+    crates = sorted(os.listdir(os.path.join(TOP, "crates")))
+    if sys.argv[1:2] == ["--files"] and sys.argv[2:] and set(sys.argv[2:]) <= set(crates):
+        for crate in sys.argv[2:]:
+            show_files(crate)
+        return
+    if sys.argv[1:]:
         print(__doc__.strip())
         sys.exit(0 if sys.argv[1:] in (["-h"], ["--help"]) else 2)
-    problems, text = Problems(), read(DOCUMENT)
-    if sys.argv[1:]:
-        new = SECTION.sub(lambda it: f"## `{it.group(1)}`\n{written(it.group(1), it.group(2))}", text)
-        if new != text:
-            with open(DOCUMENT, "w", encoding="utf-8") as document:
-                document.write(new)
-            text = new
-    sections = dict(SECTION.findall(text))
-    for crate in sorted(os.listdir(os.path.join(TOP, "crates"))):
-        if files_of(crate) and crate not in sections:
-            problems.say(f"{crate} has no section")
+    problems = Problems()
+    sections = dict(SECTION.findall(read(DOCUMENT)))
+    for name in set(sections) - set(crates):
+        problems.say(f"there is no crate {name}")
+    for crate in crates:
+        if files_of(crate) and os.path.exists(os.path.join(TOP, "crates", crate, "src", "laws.rt")) and crate not in sections:
+            problems.say(f"{crate} has laws, and no section")
         if crate in sections:
             check_laws(problems, crate, sections[crate])
-            check_files(problems, crate, sections[crate])
+        check_files(problems, crate)
     print(f"{problems.laws} laws, {problems.files} files, {problems.count} problems")
     sys.exit(1 if problems.count else 0)
 
