@@ -1,5 +1,5 @@
--- Bar by R-polynomials: turned round in degree n - l(x), the coefficient at x of q^n times bar of h is the sum of the R(x,y) h(y). So the last
--- condition of a row of w says that q^l(w) times bar of the row is the row.
+-- Bar by R-polynomials: turned round in degree n - l(x), the coefficient at x of q^n times bar of h is the sum of the R(x,y) h(y). So the
+-- last condition of a row of w says that q^l(w) times bar of the row is the row.
 use Rattle.std.proofs.Common.{◌≡◌, ℕ, ◌+◌, ◌-◌, ◌*◌, ◌≤◌, ◌<◌, List, ⊎_elim, pos, ap, sym, ◌∙◌, arith}
 use Rattle.std.proofs.lemmas.Bool.{cases_lt}
 use Rattle.cox_base.specs.IntegerMatrix.{IntegerMatrix}
@@ -84,7 +84,8 @@ module _ (A : IntegerMatrix) (g : IsAdmissible A) where
         ap (λ (f : Coefficients). product (left_inverse_word A (normal_form A y) (unit A) x) f k)
         (ap (flip (n - word_length A y)) (long-none y long) ∙ flip-none (n - word_length A y))
         ∙ product-zero (left_inverse_word A (normal_form A y) (unit A) x) k
-        ∙ nothing (λ j. ap (λ (f : Coefficients). product (r_polynomial A x y) f j) (long-none y long) ∙ product-zero (r_polynomial A x y) j))
+        ∙ nothing (λ j. ap (λ (f : Coefficients). product (r_polynomial A x y) f j) (long-none y long)
+        ∙ product-zero (r_polynomial A x y) j))
         (λ (short : word_length A y ≤ n).
         ap (λ (f : Coefficients). product f (flip (n - word_length A y) (h y)) k) (sym (coefficient-turned x y b))
         ∙ sym (flip-product (word_length A y - word_length A x) (n - word_length A y) (n - word_length A x) (r_polynomial A x y) (h y)

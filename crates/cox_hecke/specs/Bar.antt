@@ -1,5 +1,5 @@
--- Bar, the map of the Hecke algebra that sends q to 1/q and T(y) to T(y^-1)^-1, and is additive and multiplicative (Kazhdan and Lusztig 1979,
--- section 1; Humphreys 7.7).
+-- Bar, the map of the Hecke algebra that sends q to 1/q and T(y) to T(y^-1)^-1, and is additive (Kazhdan and Lusztig 1979, section 1;
+-- Humphreys 7.7).
 use Rattle.std.specs.Prelude.{◌≡◌, ℕ, ◌+◌, ◌-◌, ◌<◌, List, pos}
 use Rattle.cox_base.specs.IntegerMatrix.{IntegerMatrix}
 use Rattle.cox_base.specs.ShortLex.{normal_form}
@@ -16,7 +16,7 @@ pub record IsCombination (A : IntegerMatrix) (n : ℕ) (w : List ℕ) (h : Famil
   pub outside : (x : List ℕ) → ¬ IsBelow A x w → (k : ℕ) → h x k ≡ pos 0
   pub degree : (x : List ℕ) (k : ℕ) → n < word_length A x + k → h x k ≡ pos 0
 
--- q^n times bar of the sum of the h(y) T(y) over the words y. In such a combination all coefficients of that are polynomials in q. The term
--- of y is q^(n-l(y)) h(y)(1/q) times q^l(y) T(y^-1)^-1, and T(y^-1)^-1 is T(s1)^-1 T(s2)^-1 .. T(sk)^-1 for the normal form s1 s2 .. sk of y.
+-- q^n times bar of the sum of the h(y) T(y) over the words y. For such a combination its coefficients are polynomials in q. The term of y
+-- is q^(n-l(y)) h(y)(1/q) times q^l(y) T(y^-1)^-1, where T(y^-1)^-1 is T(s1)^-1 T(s2)^-1 .. T(sk)^-1 for the normal form s1 s2 .. sk of y.
 abbrev pub bar : IntegerMatrix → ℕ → List (List ℕ) → Family → Family
 bar A n words h x = sum_over words (λ y. product (left_inverse_word A (normal_form A y) (unit A) x) (flip (n - word_length A y) (h y)))

@@ -91,8 +91,8 @@ pub fn bar_sums()
         → bar_sum A words (step Left A s h) x k ≡ times_q (plus (bar_sum A words h x) (bar_sum A words h (s ∷ x))) k }
 {}
 
-/// Bar takes combinations of the T(x) with x <= w to such combinations, and is its own inverse (Kazhdan and Lusztig 1979, section 1; Humphreys
-/// 7.7). With `n` it is q^n times bar that is meant, on either side.
+/// Bar takes combinations of the T(x) with x <= w to such combinations, and is its own inverse (Kazhdan and Lusztig 1979, section 1;
+/// Humphreys 7.7). It is q^n times bar that is meant, each time.
 pub fn bar_involution()
     ensures combination { (A : IntegerMatrix) → IsAdmissible A → (n : ℕ) (w : List ℕ) (h : Family) → IsCombination A n w h
         → (words : List (List ℕ)) → ListsEach A (λ y. IsBelow A y w) words → IsCombination A n w (bar A n words h) }
