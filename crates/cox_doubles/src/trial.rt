@@ -1,8 +1,6 @@
 //! What a program is given where a test runs it whole.
 use crate::command_line::CommandLine;
-use crate::memory_sink::MemorySink;
-use crate::memory_source::MemorySource;
-use cox_outside::arguments_of;
+use cox_outside::{MemorySink, MemorySource, arguments_of};
 use std::alloc::{AllocError, Global};
 
 /// What a program is given in a test: its arguments and its input, the sizes of a read and of a write, those that have to fail, and the

@@ -4,3 +4,4 @@ pub mod Taking
 pub mod LineKeeping
 pub mod Showing
 pub mod Telling
+pub mod Memory

@@ -10,3 +10,5 @@ pub mod Feed
 pub mod Ahead
 pub mod Scan
 pub mod Reader
+pub mod Calls
+pub mod Memory

@@ -12,8 +12,11 @@
 //! - `starting`: such runs with options and faults
 //! - `large`: large answers, which no lack of memory cuts off; lines and inputs at their limits
 //! - `workers`: such runs with several workers, some of them behind a gate
+//! - `in_memory`: a script and its answer in memory, for programs that call the shell
 #![tactic(auto)]
 
+#[cfg(test)]
+mod in_memory;
 #[cfg(test)]
 mod large;
 #[cfg(test)]

@@ -1,7 +1,7 @@
 //! Whole runs from the arguments of an environment, over a source and a sink in memory.
 use crate::{NAME, start};
-use cox_doubles::{MemorySink, Trial};
-use cox_outside::{Gate, Open};
+use cox_doubles::Trial;
+use cox_outside::{Gate, MemorySink, Open};
 use cox_shell::Status;
 use std::alloc::{AllocError, Global};
 use std::process::Abort;

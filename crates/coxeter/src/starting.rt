@@ -2,8 +2,8 @@
 
 use crate::NAME;
 use crate::runs::assert_end;
-use cox_doubles::{CommandLine, MemorySink, MemorySource, Trial};
-use cox_outside::{Got, Source, arguments_of};
+use cox_doubles::{CommandLine, Trial};
+use cox_outside::{Got, MemorySink, MemorySource, Source, arguments_of};
 use cox_shell::{Status, run_one};
 use std::test::Fail;
 

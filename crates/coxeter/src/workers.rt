@@ -2,8 +2,8 @@
 ghost use Rattle.std.specs.Prelude.{◌≡◌, true};
 
 use crate::runs::{assert_end, end_of};
-use cox_doubles::{Census, MemorySink, Trial};
-use cox_outside::{Gate, Open};
+use cox_doubles::{Census, Trial};
+use cox_outside::{Gate, MemorySink, Open};
 use cox_shell::{Session, Status};
 use std::alloc::{AllocError, Global};
 use std::process::Abort;

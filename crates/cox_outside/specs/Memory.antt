@@ -4,7 +4,7 @@ use Rattle.cox_outside.specs.declared.source.Got.{Got}
 use Rattle.cox_outside.specs.declared.source.Got.TheVariants as got_variants
 use Rattle.cox_outside.specs.declared.sink.Took.{Took}
 use Rattle.cox_outside.specs.declared.sink.Took.TheVariants as took_variants
-use Rattle.cox_doubles.specs.Calls.{Calls, none_fails, next_fails, after_call}
+use Rattle.cox_outside.specs.Calls.{Calls, none_fails, next_fails, after_call}
 use Rattle.cox_outside.specs.Supply.{Supply}
 use Rattle.cox_outside.specs.SourceRead.{got_count, got_failed}
 use Rattle.cox_outside.specs.Outlet.{Outlet}

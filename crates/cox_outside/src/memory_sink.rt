@@ -1,13 +1,13 @@
 //! A sink in memory.
 
 ghost use Rattle.std.specs.Prelude.{◌≡◌, ◌+◌, ◌<◌, ◌≤◌, [], ◌++◌, length, take, vec_len, vec_capacity, IfOk, IfSome};
-ghost use Rattle.cox_doubles.specs.Calls.{no_calls};
+ghost use Rattle.cox_outside.specs.Calls.{no_calls};
 ghost use Rattle.cox_outside.specs.SinkWrite.{TookFits, took_count, took_failed};
 ghost use Rattle.cox_outside.specs.Outlet.{Writes, SinkCause};
-ghost use Rattle.cox_doubles.specs.Memory.{outlet_of, next_took, after_write};
+ghost use Rattle.cox_outside.specs.Memory.{outlet_of, next_took, after_write};
 
 use crate::calls::CallLog;
-use cox_outside::{Sink, Took};
+use crate::sink::{Sink, Took};
 use std::alloc::{AllocError, Global};
 use std::marker::Model;
 
@@ -22,7 +22,7 @@ pub struct MemorySink {
 
 impl Model for MemorySink {
     ghost use Rattle.std.specs.Prelude.{◌≤◌, vec_len, vec_capacity};
-    ghost use Rattle.cox_doubles.specs.Memory.{MemoryOutlet};
+    ghost use Rattle.cox_outside.specs.Memory.{MemoryOutlet};
 
     ghost Value = { MemoryOutlet };
 

@@ -1,8 +1,8 @@
 -- The bytes that were copied into the buffer are gone from those left.
 use Rattle.std.proofs.Common.{◌-◌, ◌≤◌, Some, ap, arith, length, length-drop}
 use Rattle.std.proofs.lemmas.List.{take_rest}
-use Rattle.cox_doubles.proofs.Memory.{copied_prefix}
-use Rattle.cox_doubles.proofs.memory_source.MemorySourceSource.read.Goals as goal
+use Rattle.cox_outside.proofs.Memory.{copied_prefix}
+use Rattle.cox_outside.proofs.memory_source.MemorySourceSource.read.Goals as goal
 
 pub returns-clause-bytes : goal.returns-clause-bytes
 returns-clause-bytes c =

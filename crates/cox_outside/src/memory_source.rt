@@ -2,13 +2,13 @@
 
 ghost use Rattle.std.specs.Prelude.{◌≡◌, ◌<◌, ◌≤◌, ◌++◌, length, take, drop};
 ghost use Rattle.std.specs.Io.KnownBytes.{prepend_known, IsAtEnd};
-ghost use Rattle.cox_doubles.specs.Calls.{no_calls};
+ghost use Rattle.cox_outside.specs.Calls.{no_calls};
 ghost use Rattle.cox_outside.specs.SourceRead.{GotFits, got_bytes, got_count, got_failed};
 ghost use Rattle.cox_outside.specs.Supply.{SourceCause};
-ghost use Rattle.cox_doubles.specs.Memory.{supply_of, next_got, after_read};
+ghost use Rattle.cox_outside.specs.Memory.{supply_of, next_got, after_read};
 
 use crate::calls::CallLog;
-use cox_outside::{Got, Source};
+use crate::source::{Got, Source};
 use std::marker::Model;
 
 /// A source over bytes in memory. It tells the bytes left, and is sure where no call has to fail.
@@ -22,7 +22,7 @@ pub struct MemorySource {
 
 impl Model for MemorySource {
     ghost use Rattle.std.specs.Prelude.{◌≤◌, drop, vec_len};
-    ghost use Rattle.cox_doubles.specs.Memory.{MemorySupply};
+    ghost use Rattle.cox_outside.specs.Memory.{MemorySupply};
 
     ghost Value = { MemorySupply };
 

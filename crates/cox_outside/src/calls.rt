@@ -2,7 +2,7 @@
 
 ghost use Rattle.std.specs.Prelude.{◌≡◌, ◌≤◌, true};
 ghost use Rattle.cox_outside.specs.FaultCount.{count_after};
-ghost use Rattle.cox_doubles.specs.Calls.{no_calls, next_call, next_fails};
+ghost use Rattle.cox_outside.specs.Calls.{no_calls, next_call, next_fails};
 
 use std::marker::Model;
 
@@ -15,7 +15,7 @@ pub struct CallLog {
 }
 
 impl Model for CallLog {
-    ghost use Rattle.cox_doubles.specs.Calls.{Calls};
+    ghost use Rattle.cox_outside.specs.Calls.{Calls};
 
     ghost Value = { Calls };
 
