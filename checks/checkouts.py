@@ -1,4 +1,5 @@
 """Small checkouts with the launcher, where a stand-in for `rt` 'builds' a stand-in for the program, for the scripts beside this one."""
+import hashlib
 import os
 import shutil
 import signal
@@ -80,6 +81,14 @@ esac
 # What the first program answers when it is run with no arguments.
 ONE = b"program of one:\ninput\n"
 BUILDING = b"coxeter: proving and building the program"
+
+# The program that the stand-in builds of a source, and a list of releases that has two such programs.
+PROGRAM = b"#!/bin/sh\necho \"program of %s:$*\"; cat; exit 7\n"
+RELEASES = """| version | date | commit | kit | sha256 of `coxeter` | sha256 of `coxcheck` |
+|---|---|---|---|---|---|
+| 1.2 | not released yet | - | - | - | - |
+| 1.1 | 2030-01-31 | abab | rattle-kit-1 logic 0123456789abcdef | %s | %s |
+"""
 counts = {"tried": 0, "differ": 0}
 
 
@@ -108,6 +117,20 @@ class Checkout:
         folder = os.path.join(self.top, b"crates", crate, b"src")
         os.makedirs(folder, exist_ok=True)
         self.write(os.path.join(folder, file), text)
+
+    def release(self, coxeter=b"one", coxcheck=b"six"):
+        """Makes a release of programs that were built from these texts, as of the sources that are there."""
+        sums = []
+        for name in (b"release", b"docs"):
+            os.makedirs(self.path(name), exist_ok=True)
+        for name, text in ((b"coxeter", coxeter), (b"coxcheck", coxcheck)):
+            program = PROGRAM % text
+            self.write(self.path(b"release/" + name), program)
+            os.chmod(self.path(b"release/" + name), 0o755)
+            sums.append(hashlib.sha256(program).hexdigest())
+        self.write(self.path(b"docs/RELEASES.md"), (RELEASES % tuple(sums)).encode())
+        listed = subprocess.run(["launch/sources"], cwd=self.top, stdout=subprocess.PIPE, check=True).stdout
+        self.write(self.path(b"release/sources"), b"1.1 %s\n" % hashlib.sha256(listed).hexdigest().encode())
 
     def environment(self, tools=True, **more):
         """The environment, with the stand-in on the PATH or no `rt` at all."""

@@ -14,8 +14,8 @@ NOT_BUILT = (70, 127)
 
 
 def program(words, name="coxeter"):
-    """The program named by the script's arguments, else the one of this name in this checkout, which its launcher builds first if
-    need be. With --help the script says what it is for, and ends."""
+    """The program named by the script's arguments, else the one of this name that the launcher of this checkout runs, which it builds
+    first if need be. With --help the script says what it is for, and ends."""
     if words in (["-h"], ["--help"]):
         print(sys.modules["__main__"].__doc__.strip())
         sys.exit(0)
@@ -28,7 +28,9 @@ def program(words, name="coxeter"):
         sys.exit(f"there is no program {name} in this checkout")
     if subprocess.run([launcher], stdin=subprocess.DEVNULL, stdout=subprocess.DEVNULL).returncode in NOT_BUILT:
         sys.exit(f"the program {name} is not built")
-    return os.path.join(TOP, "crates", name, "out", name)
+    found = subprocess.run([os.path.join(TOP, "launch", "program"), name], stdout=subprocess.PIPE)
+    # Without the toolchain the launcher may have run one that was built from other sources.
+    return os.path.join(TOP, os.fsdecode(found.stdout).rstrip("\n") or os.path.join("crates", name, "out", name))
 
 
 # Arguments that set the number of workers.

@@ -11,13 +11,15 @@ documents have each crate that they are about, and none that is not there. A lim
 that its constant has, where a table or a sentence tells it. Links lead to files and headings,
 what is named as a file is one, and a name in backticks stands somewhere in the tree. Lines have
 at most 100 characters, but for tables, blocks of code and links that are too long by themselves.
-docs/BENCHMARKS.md has at most 120 lines. Files of the crates have at most 400 lines, unless
-docs/DECISIONS.md says why one is longer, and lines of at most 140 characters.
+docs/BENCHMARKS.md has at most 120 lines, and README.md 200. Files of the crates have at most 400 lines, unless
+docs/DECISIONS.md says why one is longer, and lines of at most 140 characters. What is in release/ is
+what docs/RELEASES.md lists; a line says whether it is of the crates that are there, which it need
+not be.
 
 With --write it writes the column of what crates name and the values of limits, fills paragraphs
 that are too wide, and then checks. It prints what is wrong, and a last line with counts; the exit
-status is 1 where something is wrong. It needs Python 3 alone, runs no program, and is no part of
-the gate.
+status is 1 where something is wrong. It needs Python 3 alone, runs none of the programs, and is no
+part of the gate.
 """
 import os
 import re
@@ -25,11 +27,14 @@ import sys
 import textwrap
 
 import believed
+import released
 from common import TOP
 
 WIDTH = 100
 # How many lines docs/BENCHMARKS.md has at most: one table for each script. The rest is in HISTORY.md.
 MOST_BENCHMARKS = 120
+# And README.md, which is read first.
+MOST_README = 200
 # Of a file of the crates: its lines, and the characters of a line.
 MOST_LINES, MOST_WIDE = 400, 140
 # The files of the crates that may have more lines.
@@ -461,10 +466,17 @@ def widths(problems, write):
 
 
 def lengths(problems):
-    """The page of benchmarks is no longer than it may be."""
-    count = len(read("docs", "BENCHMARKS.md").splitlines())
-    told = f"docs/BENCHMARKS.md has {count} lines, more than {MOST_BENCHMARKS}"
-    problems.want(count <= MOST_BENCHMARKS, told)
+    """The page of benchmarks and README.md are no longer than they may be."""
+    for document, most in (("docs/BENCHMARKS.md", MOST_BENCHMARKS), ("README.md", MOST_README)):
+        count = len(read(document).splitlines())
+        problems.want(count <= most, f"{document} has {count} lines, more than {most}")
+
+
+def release(problems):
+    """What is in release/ is what the list of releases has."""
+    what, wrong = released.problems()
+    print(what)
+    problems.want(not wrong, "\n".join(wrong))
 
 
 def sizes(problems):
@@ -552,6 +564,7 @@ def main():
     names(problems)
     widths(problems, write)
     lengths(problems)
+    release(problems)
     sizes(problems)
     print(
         f"{len(DOCUMENTS)} documents, {problems.looked} things compared, {problems.count} problems"

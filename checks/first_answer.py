@@ -427,18 +427,34 @@ def killed(base):
     os.remove(here.path(b"meanwhile"))
     check("the next run", here.run(), 7, ONE, True)
     say("what was left goes", left(here), [])
-    # The build of a launcher that was killed goes on, and the next run takes what it builds.
+    # The build of a launcher that was killed alone ends, and what it had done is not lost.
     here.source(b"two")
-    here.write(here.path(b"meanwhile"), b"sleep 4\n")
+    here.write(here.path(b"meanwhile"), b"exec sleep 100\n")
     ran = here.begin()
     wait_for(here.path(b"crates/building"))
     os.kill(ran.pid, signal.SIGKILL)
-    second = here.run()
-    check("one that waits for such a build", second, 7, b"program of two:\ninput\n", False)
-    say("it says that it waits", b"waiting" in second.stderr, True)
+    say("of a launcher that was killed alone nothing runs", session(ran), 0)
     ran.communicate()
-    say("of the killed one nothing runs", session(ran), 0)
-    check("and the next", here.run(), 7, b"program of two:\ninput\n", False)
+    with open(here.path(b"crates/coxeter/out/coxeter"), "rb") as file:
+        say("the program that was there", b"program of one" in file.read(), True)
+    os.rmdir(here.path(b"crates/building"))
+    os.remove(here.path(b"meanwhile"))
+    check("the run behind it", here.run(), 7, b"program of two:\ninput\n", True)
+    # So does one that waits for another, and launch/prove.
+    here.source(b"three")
+    here.write(here.path(b"meanwhile"), b"exec sleep 100\n")
+    first = here.begin()
+    wait_for(here.path(b"crates/building"))
+    second = here.begin([here.path(b"launch/prove")])
+    while b"waiting" not in second.stderr.readline():
+        pass
+    for it in (second, first):
+        os.kill(it.pid, signal.SIGKILL)
+        say("one behind another that was killed", session(it), 0)
+        it.communicate()
+    os.rmdir(here.path(b"crates/building"))
+    os.remove(here.path(b"meanwhile"))
+    check("and the next", here.run(), 7, b"program of three:\ninput\n", True)
 
 
 def two_at_once(base):

@@ -51,10 +51,24 @@ BindGlobal( "CoxeterShellRefuse", function( number, line )
     ErrorNoReturn( Concatenation( "error ", String( number ), ": ", meaning, " (the line was ", line, ")" ) );
 end );
 
+#F  CoxeterShellOfCheckout( <folder> ) . . . . . . the program of a checkout
+##
+##  It is the one that the launcher runs at once, else one that was built there from other sources.
+BindGlobal( "CoxeterShellOfCheckout", function( folder )
+    local asked, said;
+    asked := Filename( folder, "../launch/program" );
+    said := "";
+    if asked <> fail and IsExecutableFile( asked ) and
+       Process( folder, asked, InputTextNone(), OutputTextString( said, true ), [ "--quiet", "coxeter" ] ) = 0 then
+        return Filename( folder, Concatenation( "../", Chomp( said ) ) );
+    fi;
+    return Filename( folder, "../crates/coxeter/out/coxeter" );
+end );
+
 #F  CoxeterShellProgram( <path> ) . . . . . . . . . . . . the path of the program
 ##
-##  It is <path>, else what the environment variable COXETER names, else the program that was built in the checkout which this package lies
-##  in, else the command on the PATH.
+##  It is <path>, else what the environment variable COXETER names, else the program of the checkout which this package lies in (built there,
+##  or in its folder release), else the command on the PATH.
 BindGlobal( "CoxeterShellProgram", function( path )
     local environment, folder, built;
     environment := GAPInfo.SystemEnvironment;
@@ -63,7 +77,7 @@ BindGlobal( "CoxeterShellProgram", function( path )
     fi;
     if path = fail then
         for folder in DirectoriesPackageLibrary( "CoxeterShell", "" ) do
-            built := Filename( folder, "../crates/coxeter/out/coxeter" );
+            built := CoxeterShellOfCheckout( folder );
             if built <> fail and IsExecutableFile( built ) then
                 return built;
             fi;

@@ -5,10 +5,11 @@ A wheel has the documents that the package reads, which lie in docs/ of the chec
 pip copy the folder python/ alone before they build: then the wheel has none, and the package reads
 those of the checkout.
 
-A wheel has the programs too by `pip wheel ./python --config-settings programs=true`, or with the
-environment variable COXETER_SHELL_PROGRAMS=true where pip has no such option. That takes the programs
-built in the checkout. In the place of `true` stands a folder for those in it: `coxeter`, and
-`coxcheck` if there is one.
+A wheel has the programs too, on Linux on x86-64, where the checkout has both: in release/, or built
+there, from the sources that are there. `pip wheel ./python --config-settings programs=false` leaves
+them out, and `programs=true` is refused where there are none. In the place of these stands a folder
+for the programs in it: `coxeter`, and `coxcheck` if there is one. Where pip has no such option, the
+environment variable COXETER_SHELL_PROGRAMS says the same.
 """
 import base64
 import hashlib
@@ -19,6 +20,7 @@ import re
 import stat
 import subprocess
 import sys
+import sysconfig
 import tarfile
 import zipfile
 
@@ -77,17 +79,15 @@ def read(path):
 
 def programs(config_settings):
     """The programs that the wheel is to have, by their names in it, and the version of the GNU C library that they need."""
-    wanted = (config_settings or {}).get("programs") or os.environ.get(SWITCH) or "false"
+    wanted = (config_settings or {}).get("programs") or os.environ.get(SWITCH) or "there"
     if wanted.lower() in ("false", "no", "0"):
         return {}, None
-    if wanted.lower() in ("true", "yes", "1"):
-        places = {name: os.path.join(CHECKOUT, "crates", name, "out", name) for name in ("coxeter", "coxcheck")}
-        for name in places:
-            ask = os.path.join(CHECKOUT, "launch", "is_built")
-            if not os.path.exists(ask):
-                sys.exit(f"coxeter_shell: there is no checkout around {TOP}: give the folder of the programs in the place of {wanted}")
-            if subprocess.run([ask, name], cwd=CHECKOUT).returncode:
-                sys.exit(f"coxeter_shell: the program {name} is not built from these sources: run ./{name} </dev/null in {CHECKOUT} first")
+    if wanted.lower() in ("there", "true", "yes", "1"):
+        places, why = of_checkout()
+        if why and wanted != "there":
+            sys.exit(f"coxeter_shell: {why}")
+        if why or wanted == "there" and sysconfig.get_platform() != "linux-x86_64":
+            return {}, None
     else:
         places = {name: os.path.join(wanted, name) for name in ("coxeter", "coxcheck")}
         if not os.path.isfile(places["coxeter"]):
@@ -100,6 +100,20 @@ def programs(config_settings):
         if elf.machine(data) != elf.X86_64:
             sys.exit(f"coxeter_shell: {os.path.basename(name)} is no program of Linux on x86-64")
     return found, max(filter(None, map(elf.glibc, found.values())), default=(2, 0))
+
+
+def of_checkout():
+    """The paths of the programs of this checkout, by their names, as the launcher finds them, and why one of them is not there."""
+    ask = os.path.join(CHECKOUT, "launch", "program")
+    if os.path.basename(TOP) != "python" or not os.path.exists(ask):
+        return {}, f"there is no checkout around {TOP}: give the folder of the programs, as programs=FOLDER"
+    places = {}
+    for name in ("coxeter", "coxcheck"):
+        ran = subprocess.run([ask, "--quiet", name], stdin=subprocess.DEVNULL, stdout=subprocess.PIPE)
+        if ran.returncode:
+            return {}, f"the program {name} is not built from these sources: run ./{name} </dev/null in {CHECKOUT} first"
+        places[name] = os.path.join(CHECKOUT, os.fsdecode(ran.stdout).rstrip("\n"))
+    return places, None
 
 
 def described(needs=None):

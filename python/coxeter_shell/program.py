@@ -24,6 +24,7 @@ import weakref
 from typing import Any, Iterable, List, NoReturn, Optional
 
 from . import parents
+from .built import program_of
 from .documents import checkouts
 from .errors import ProgramClosed, ProgramEnded, ProgramNotFound, QuestionTimeout, Refusal, UnexpectedAnswer
 from .provenance import Provenance, own_program, provenance
@@ -545,8 +546,8 @@ def end(process, owner):
 def find_program(path: Optional[str] = None, name: str = "coxeter") -> str:
     """The path of the program `coxeter`, or of `coxcheck`, by its name.
 
-    It is `path`, else what the environment variable COXETER names, or COXCHECK, else the program that came with this package, else the
-    one built in the checkout that it lies in or was installed from, else the command on the PATH.
+    It is `path`, else what the environment variable COXETER names, or COXCHECK, else the program that came with this package, else that
+    of the checkout which it lies in or was installed from (built there, or in its release/), else the command on the PATH.
     """
     named = path or os.environ.get(name.upper())
     if named:
@@ -560,11 +561,10 @@ def find_program(path: Optional[str] = None, name: str = "coxeter") -> str:
         return found
     unbuilt = f" ({why}.)" if why else ""
     for checkout in checkouts():
-        built = os.path.join(checkout, "crates", name, "out", name)
-        if os.path.isfile(built) and os.access(built, os.X_OK):
-            return built
-        if os.path.isdir(os.path.join(checkout, "crates", name)):
-            unbuilt += f" It is not built yet in {checkout}: run ./{name} </dev/null there once."
+        found, why = program_of(checkout, name)
+        if found is not None:
+            return found
+        unbuilt += why or ""
     found = shutil.which(name)
     if found is None:
         ways = f"give its path by the argument `program` or by the environment variable {name.upper()}, or put it on the PATH."
