@@ -102,9 +102,11 @@ def why_no_type(letter, rank):
 
     >>> why_no_type("A", 17), why_no_type("E", 9)
     ('groups have rank 1 to 16', 'the types of this letter are E 6 to E 8')
+    >>> why_no_type("h", 3)
+    'H 3 has a label other than 2, 3, 4, 6 and infinity, and such labels are not taken'
     """
-    if letter in ("H", "I"):
-        return f"{letter} {rank} has a label other than 2, 3, 4, 6 and infinity, and such labels are not taken"
+    if letter.upper() in ("H", "I"):
+        return f"{letter.upper()} {rank} has a label other than 2, 3, 4, 6 and infinity, and such labels are not taken"
     if letter not in NAMED:
         return f"the letters are {', '.join(sorted(NAMED))}"
     least, greatest = NAMED[letter]
