@@ -97,24 +97,24 @@ class Screen:
 
     def _goes_on(self, lines, width):
         """Whether the reader wants more."""
-        lines.paged = True
+        first, lines.paged = not lines.paged, True
         sys.stdout.flush()
         begun = time.monotonic()
         try:
-            pressed = self._pressed(f"-- {lines.progress()}; {NEXT} --"[: width - 1])
+            pressed = self._pressed(f"-- {lines.progress()}; {NEXT} --"[: width - 1], first)
         finally:
             lines.waited += time.monotonic() - begun
         lines.unpaged = pressed in (b"a", None)
         lines.stopped = pressed in (b"q", b"Q", b"\x1b", b"\x04", b"")
         return not lines.stopped
 
-    def _pressed(self, question):
+    def _pressed(self, question, first):
         """The key that is pressed at a question. None where lines were typed that are to be run next: then the answer is written without stops."""
         while not self.ahead[-1:] == [None] and typed():
             self._take(os.read(sys.stdin.fileno(), MOST_TYPED))
         with Keys(question) as keys:
-            # What is there by now is the beginning of a line, and no answer.
-            while not self.ahead and typed():
+            # What was typed before the first question is the beginning of a line, and no answer. Before others it is one.
+            while first and not self.ahead and typed():
                 self._take(keys.next())
             if self.ahead:
                 return None
