@@ -1,5 +1,6 @@
 """Coxeter groups by the program `coxeter`, for Python and Sage."""
 from .certificates import Verdict, check
+from .classes import ConjugacyClasses
 from .errors import (
     CheckFailed,
     CoxeterError,
@@ -22,6 +23,7 @@ from .modules import CellModule, InV
 from .polynomial import Polynomial
 from .program import Program, find_program
 from .provenance import Provenance, Release
+from .right_modules import RightCellModule
 from .schubert import SchubertVariety
 from .tables import Cells, ElementDict, PairDict, RowTable, Table
 from .texts import gap
@@ -35,6 +37,7 @@ __all__ = [
     "CellOrder",
     "Cells",
     "CheckFailed",
+    "ConjugacyClasses",
     "CoxeterError",
     "CoxeterGroup",
     "ElementDict",
@@ -53,6 +56,7 @@ __all__ = [
     "QuestionTimeout",
     "Refusal",
     "Release",
+    "RightCellModule",
     "RowTable",
     "SchubertVariety",
     "Table",

@@ -291,58 +291,63 @@ class Elements(Base):
     # ---- permutations
 
     def to_permutation(self, w: Word) -> Tuple[int, ...]:
-        """The permutation of an element of A n, or the signed permutation of an element of B n, in one-line notation: a
-        letter s on the right swaps what stands at the places s and s+1, and the letter n of B n turns the sign at the
-        last place. So words are multiplied as maps, as Sage's Permutations are. Sage's SymmetricGroup and SignedPermutations
-        multiply the other way round: for one of their elements the answer is the inverse.
+        """The permutation of an element of A n, or the signed permutation of an element of B n or D n, in one-line notation: a
+        letter s on the right swaps what stands at the places s and s+1. The letter n of B n turns the sign at the last place;
+        that of D n swaps what stands at the last two places and turns both signs, so that the number of signs is even
+        (Bjorner and Brenti 2005, chapter 8, which have the letter 0 at the first places). So words are multiplied as maps, as
+        Sage's Permutations are. Sage's SymmetricGroup and SignedPermutations multiply the other way round: for one of their
+        elements the answer is the inverse.
 
         >>> CoxeterGroup("A", 3).to_permutation("2132"), CoxeterGroup("B", 3).to_permutation("32")
         ((3, 4, 1, 2), (1, -3, 2))
+        >>> CoxeterGroup("D", 4).to_permutation("4"), CoxeterGroup("D", 4).to_permutation("34")
+        ((1, 2, -4, -3), (1, 2, -3, -4))
         """
-        values = list(range(1, self._places() + 1))
+        letter, values = self._permutation_type(), list(range(1, self._places() + 1))
         for s in self.normal_form(w):
-            self._act(values, s)
+            act(letter, values, s)
         return tuple(values)
 
     def from_permutation(self, values: Iterable[int]) -> Element:
-        """The element of A n or B n of a permutation or signed permutation in one-line notation.
+        """The element of A n, B n or D n of a permutation or signed permutation in one-line notation.
 
         >>> CoxeterGroup("A", 3).from_permutation([3, 4, 1, 2]), CoxeterGroup("B", 3).from_permutation([1, -3, 2])
         ((2, 1, 3, 2), (3, 2))
+        >>> CoxeterGroup("D", 4).from_permutation([1, 2, -3, -4])
+        (3, 4)
         """
-        places = self._places()
-        signed = places == self.rank
+        letter, places = self._permutation_type(), self._places()
+        signed = letter != "A"
         try:
             listed = [operator.index(it) for it in (() if isinstance(values, (set, frozenset, dict)) else values)]
         except TypeError:
             raise TypeError(f"a permutation is a list or tuple of whole numbers, and not {values!r}") from None
         if sorted(abs(it) for it in listed) != list(range(1, places + 1)) or min(listed) < 0 and not signed:
             raise ValueError(f"{listed} is no {'signed ' if signed else ''}permutation of 1 to {places}")
+        if letter == "D" and sum(it < 0 for it in listed) % 2:
+            raise ValueError(f"{listed} has an odd number of signs, and elements of {self!r} have an even number")
         # The values in the order of e 1 > e 2 > .. > 0 > .. > -e 2 > -e 1, where -e i stands for -i.
         word: List[int] = []
         keys = [(places + 1 - abs(it)) * (1 if it > 0 else -1) for it in listed]
         while True:
             descents = [s for s in range(1, places) if keys[s - 1] < keys[s]]
-            if signed and keys[-1] < 0:
+            if letter == "B" and keys[-1] < 0 or letter == "D" and keys[-2] + keys[-1] < 0:
                 descents.append(places)
             if not descents:
                 return self.normal_form(word[::-1])
             word.append(descents[0])
-            self._act(keys, descents[0])
+            act(letter, keys, descents[0])
+
+    def _permutation_type(self):
+        """The letter of the type of a group whose elements are permutations."""
+        for letter, least in (("A", 1), ("B", 2), ("D", 4)):
+            if self.rank >= least and self._matrix == kinds.named_matrix(letter, self.rank):
+                return letter
+        raise ValueError(f"elements of {self!r} are not given as permutations: those of A n, B n and D n are")
 
     def _places(self):
         """How many places the permutations have."""
-        if self._matrix == kinds.named_matrix("A", self.rank):
-            return self.rank + 1
-        if self.rank > 1 and self._matrix == kinds.named_matrix("B", self.rank):
-            return self.rank
-        raise ValueError(f"elements of {self!r} are not given as permutations: those of A n and B n are")
-
-    def _act(self, values, s):
-        if s == len(values):
-            values[-1] = -values[-1]
-        else:
-            values[s - 1], values[s] = values[s], values[s - 1]
+        return self.rank + (self._permutation_type() == "A")
 
     # ---- Sage
 
@@ -382,6 +387,18 @@ class Elements(Base):
             places = len(element)
         except TypeError:
             raise TypeError(f"{element} is no element of a Coxeter group") from None
-        if self._places() != places or places == self.rank:
+        if self._permutation_type() != "A":
+            raise ValueError(f"{element} is no permutation with signs, as elements of {self!r} are")
+        if self._places() != places:
             raise ValueError(f"{element} is no permutation of 1 to {self.rank + 1}, as elements of {self!r} are")
         return list(element.reduced_word())
+
+
+def act(letter, values, s):
+    """Multiplies a permutation of a group of a type by a letter on the right."""
+    if s < len(values):
+        values[s - 1], values[s] = values[s], values[s - 1]
+    elif letter == "B":
+        values[-1] = -values[-1]
+    else:
+        values[-2], values[-1] = -values[-1], -values[-2]

@@ -10,6 +10,9 @@ from typing import Any, Iterator, List, Optional, Sequence, Tuple
 from . import certificates, kinds, progress, reasons, texts
 from .base import Element, Word
 from .cells import CellTheory
+from .characters import Characters
+from .classes import Classes
+from .cosets import Cosets
 from .elements import Elements
 from .errors import CoxeterError, Refusal
 from .graphs import HasseDiagram, Vertex, WGraph
@@ -18,9 +21,12 @@ from .jobs import Jobs
 from .many import Many
 from .modules import CellModule
 from .names import Names
+from .parts import Parts
 from .polynomial import Polynomial
 from .program import Program, seconds
+from .right_modules import RightModules
 from .schubert import Schubert
+from .smooth import Smoothness
 from .tables import Cells, ElementDict
 
 SIDES = ("left", "right")
@@ -29,7 +35,9 @@ Work = collections.namedtuple("Work", "words entries degree sum")
 Work.__doc__ = "The answer to `work`: numbers of words and of polynomials, the largest degree, the sum of the coefficients."
 
 
-class CoxeterGroup(Elements, Names, CellTheory, Schubert, Hecke, Many, Jobs):
+class CoxeterGroup(
+    Elements, Names, CellTheory, Parts, RightModules, Classes, Characters, Schubert, Smoothness, Cosets, Hecke, Many, Jobs
+):
     """A Coxeter group, by its type, by its Coxeter matrix, or by a Cartan type, Coxeter matrix or group of Sage.
 
     >>> CoxeterGroup("A", 3) == CoxeterGroup("A 3") == CoxeterGroup("A3") == CoxeterGroup(["A", 3])

@@ -102,9 +102,11 @@ def why_no_type(letter, rank):
 
     >>> why_no_type("A", 17), why_no_type("E", 9)
     ('groups have rank 1 to 16', 'the types of this letter are E 6 to E 8')
+    >>> why_no_type("h", 3)
+    'H 3 has a label other than 2, 3, 4, 6 and infinity, and such labels are not taken'
     """
-    if letter in ("H", "I"):
-        return f"{letter} {rank} has a label other than 2, 3, 4, 6 and infinity, and such labels are not taken"
+    if letter.upper() in ("H", "I"):
+        return f"{letter.upper()} {rank} has a label other than 2, 3, 4, 6 and infinity, and such labels are not taken"
     if letter not in NAMED:
         return f"the letters are {', '.join(sorted(NAMED))}"
     least, greatest = NAMED[letter]
@@ -322,15 +324,24 @@ ABOVE = {3: 1, 4: 2, 6: 3, math.inf: 2}
 BELOW = {3: 1, 4: 1, 6: 1, math.inf: 2}
 
 
+def neighbours(matrix):
+    """For each node s those t that are joined to it, with minus the entry (s, t) of a Cartan matrix: s takes the root of t to the sum of that
+    and so many times the root of s.
+
+    >>> neighbours(named_matrix("B", 2)), neighbours(named_matrix("A", 2))
+    ([[(1, 2)], [(0, 1)]], [[(1, 1)], [(0, 1)]])
+    """
+    size = range(len(matrix))
+    return [[(t, (ABOVE if s < t else BELOW)[matrix[s][t]]) for t in size if matrix[s][t] in ABOVE] for s in size]
+
+
 def order(matrix, word):
     """The order of the element of a word, math.inf where it has none: that of its matrix in a reflection representation.
 
     The representation has the root basis of a Cartan matrix that belongs to the labels, and integers as entries. It is
     faithful (Kac, "Infinite dimensional Lie algebras", section 3.13).
     """
-    size = range(len(matrix))
-    # For each s the t that are joined to it, with minus the entry (s, t) of the Cartan matrix.
-    joined = [[(t, (ABOVE if s < t else BELOW)[matrix[s][t]]) for t in size if matrix[s][t] in ABOVE] for s in size]
+    size, joined = range(len(matrix)), neighbours(matrix)
     identity = [[int(s == t) for s in size] for t in size]
     columns = [list(it) for it in identity]
     for exponent in range(1, MOST_ORDER + 1):

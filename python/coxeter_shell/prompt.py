@@ -11,7 +11,7 @@ import signal
 import sys
 import time
 
-from . import diagrams, progress, prompt_editing, prompt_help, prompt_package, prompt_words
+from . import diagrams, progress, prompt_editing, prompt_groups, prompt_help, prompt_package, prompt_words, reasons
 from .documents import read_document
 from .errors import CoxeterError, Refusal
 from .group import CoxeterGroup
@@ -44,7 +44,7 @@ NEXT, END = "next", "end"
 COMMANDS = sorted([*PROGRAM, *OWN, *prompt_package.COMMANDS])
 
 BANNER = (
-    "Coxeter groups by the program coxeter. Its answers are proved; what the shell makes of several says so, and is not.",
+    "Coxeter groups by the program coxeter. Its answers are proved; what the shell makes by itself says so, and is not.",
     "help lists the commands, help pol says more of one; Tab completes, Ctrl-C ends a question, q the shell.",
 )
 NOT_PROVED = "-- made by the package from answers of the program, not proved"
@@ -67,7 +67,7 @@ class Shell:
     def __init__(self, program=None, **options):
         self.path, self.options = program, options
         self.screen = Screen(all(it is not None and it.isatty() for it in (sys.stdin, sys.stdout)))
-        self.group = None
+        self.group = self.name = None  # the name is that of `type` and of the prompt
         self.bare = Program(program, **options)  # it answers while no group is set
         self.blocks = None  # of a list of jobs that is open
         self.refused = False
@@ -101,12 +101,12 @@ class Shell:
             self._may_interrupt = True
             text = self._read()
             self._asking = True
-            going = all([self._taken(it) for it in text.splitlines()] if text is not None else [self._end_of_input()])
+            going = all(map(self._taken, lines_of(text))) if text is not None else self._end_of_input()
             self._may_interrupt = self._asking = False
         except KeyboardInterrupt:
             if not self.screen.interactive:
                 raise
-            self.screen.ahead.clear()
+            self.screen.forget()
             self.screen.say("", "-- stopped" if self._asking else "")
             self.blocks, self._asking, going = None, False, True
         return going
@@ -120,12 +120,14 @@ class Shell:
         """The next line, None at the end. On a terminal it may have several lines, which were pasted."""
         if self.screen.interactive:
             sys.stdout.flush()
+            self.screen.said = 0
             if self.screen.ahead:
                 line = self.screen.ahead.pop(0)
-                print(self.prompt() + line)
+                print(self.prompt() + (line or ""))
+                prompt_editing.remember(line)
                 return line
             try:
-                return input(self.prompt())
+                return prompt_editing.read(self.prompt(), self.screen.begun_line())
             except EOFError:
                 print()
                 return None
@@ -140,11 +142,10 @@ class Shell:
     def prompt(self):
         if self.blocks is not None:
             return "jobs> "
-        if self.group is None:
+        if self.name is None:
             return "coxeter> "
-        words = self.group.line.split(" ")
-        name = " ".join(words[1:]) if words[0] == "type" else self.group.line
-        return f"{name if len(name) <= 24 else f'{words[0]} {words[1]} ..'}> "
+        words = self.name.split(" ")
+        return f"{self.name if len(self.name) <= 24 else f'{words[0]} {words[1]} ..'}> "
 
     def _end_of_input(self):
         if self.blocks is not None:
@@ -159,7 +160,8 @@ class Shell:
         except Mistake as error:
             self._refuse(typed, str(error), error.place)
         except Refusal as refusal:
-            self._refuse(typed, f"error {refusal.number}: {refusal.meaning}{self._usage(refusal, typed)}", self._cause(refusal, typed))
+            why = self._detail(refusal) or self._usage(refusal, typed)
+            self._refuse(typed, f"error {refusal.number}: {refusal.meaning}{why}", self._cause(refusal, typed))
         except BrokenPipeError:
             raise
         except (CoxeterError, ValueError, OSError) as error:
@@ -218,13 +220,24 @@ class Shell:
         """The answer of the program."""
         program = self.bare if self.group is None else self.group.program
         program.watch = progress.watch if self.screen.interactive and progress.can_show() else None
-        return program.stream(self._sent(name, arguments))
+        line, remarks = self._sent(name, arguments)
+        answer = program.stream(line)
+        self.screen.say(*remarks)
+        return answer
 
     def _sent(self, name, arguments):
-        """The line for the program: words with signs in them are worked out. Where the line is refused for another cause, they stay."""
+        """The line for the program, and remarks: words with signs in them are worked out. Where the line is refused for another cause, they
+        stay."""
         if self.group is None or len(arguments) != PROGRAM[name]:
-            return " ".join([name, *(it.text for it in arguments)])
-        return " ".join([name, *map(self._word, arguments)])
+            return " ".join([name, *(it.text for it in arguments)]), []
+        words, remarks = self._worked_out(arguments)
+        return " ".join([name, *words]), remarks
+
+    def _worked_out(self, arguments):
+        """Words as the program reads them, and a remark on each that the package has worked out."""
+        words = list(map(self._word, arguments))
+        made = {it.text: word for it, word in zip(arguments, words) if prompt_words.has_signs(it.text)}
+        return words, [prompt_words.remark(typed, word, len(self.group._spelling.element(word))) for typed, word in made.items()]
 
     def _word(self, part):
         """A word as the program reads it."""
@@ -242,9 +255,10 @@ class Shell:
             raise Refusal(11, question)
         if self.group is None:
             raise Refusal(15, question)
-        answer = iter(lines(self.group, *map(self._word, arguments)))
+        words, remarks = self._worked_out(arguments)
+        answer = iter(lines(self.group, *words))
         first = next(answer)
-        self.screen.say(NOT_PROVED)
+        self.screen.say(*remarks, NOT_PROVED)
         return [first, *answer]
 
     # ---- the shell's own commands
@@ -271,11 +285,12 @@ class Shell:
             return [str(self.group.rank)]
         if not re.fullmatch("[0-9]{1,9}", arguments[0].text):
             raise Refusal(12, question)
-        words = self.group.line.split(" ")
-        if words[0] != "type":
-            raise Mistake("the group was set by its matrix: set another one by matrix, or by type")
-        number = int(arguments[0].text) - (self.group.rank - int(words[2]))
-        return self._set(f"{words[1]} {max(number, 0)}")
+        words = self.name.split(" ")
+        if len(words) != 2:
+            how = "was set by its matrix" if words[0] == "matrix" else "is a product"
+            raise Mistake(f"the group {how}: set another one by matrix, or by type")
+        number = int(arguments[0].text) - (self.group.rank - int(words[1]))
+        return self._set(f"{words[0]} {max(number, 0)}")
 
     def _type(self, arguments, question):
         """Sets a named group, or shows which is set."""
@@ -283,7 +298,7 @@ class Shell:
             return self._set(" ".join(it.text for it in arguments))
         if self.group is None:
             raise Refusal(15, question)
-        return [self.group.line]
+        return [self.name if self.name.startswith("matrix") else f"type {self.name}"]
 
     def _matrix(self, arguments, question):
         """Sets a group by its matrix, or shows the matrix and the diagram."""
@@ -295,16 +310,17 @@ class Shell:
         return [*diagrams.table(rows), "", *diagrams.diagram(rows)]
 
     def _set(self, kind):
-        """Sets a group, once its program has taken it."""
+        """Sets a group, once its program has taken it, and says what the package has made of its name."""
         group = CoxeterGroup(kind, program=self.path, **self.options)
         try:
             group.program.start()
         except BaseException:
             group.close()
             raise
-        before, self.group = self.group, group
+        before, self.group, self.name = self.group, group, prompt_groups.name(kind, group)
         if before is not None:
             before.close()
+        self.screen.say(*prompt_groups.remarks(self.name, group))
 
     def _jobs(self, arguments, question):
         if arguments:
@@ -319,7 +335,9 @@ class Shell:
         if path is not None and name != END:
             raise Mistake("the answers of a list go to a file by end > FILE", (len(question), 1))
         if name in PROGRAM:
-            self.blocks[-1].append(self._sent(name, arguments))
+            line, remarks = self._sent(name, arguments)
+            self.blocks[-1].append(line)
+            self.screen.say(*remarks)
         elif arguments:
             raise Refusal(11, question)
         elif name == NEXT:
@@ -344,6 +362,12 @@ class Shell:
         except (CoxeterError, IndexError):
             return None
 
+    def _detail(self, refusal):
+        """Which cause a refusal has, where that is more than the place in the line shows."""
+        if refusal.number == 31 and not refusal.detail:
+            refusal.detail = reasons.detail(self.group, refusal)
+        return f": {refusal.detail}" if refusal.number in (13, 31) and refusal.detail else ""
+
     def _usage(self, refusal, typed):
         """How a command is written whose arguments are too many or too few."""
         name = self._name(typed)
@@ -359,6 +383,11 @@ class Shell:
         name = self._name(typed)
         words = PROGRAM.get(name, prompt_package.COMMANDS.get(name, (0,))[0])
         return prompt_words.cause(refusal.number, question, name, self.group, words)
+
+
+def lines_of(text):
+    """The lines of a text that was read or pasted, without what ends them."""
+    return (text[:-1] if text.endswith("\n") else text).split("\n")
 
 
 def redirected(typed, strict=True):

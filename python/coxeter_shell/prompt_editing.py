@@ -37,6 +37,23 @@ def type_part(before):
     return map(str, range(least, greatest + 1))
 
 
+def read(prompt, begun):
+    """The line that is typed behind a prompt. `begun` is what was typed of it before."""
+    if readline is None:
+        return begun + input(prompt + begun)
+    readline.set_startup_hook(lambda: readline.insert_text(begun))
+    try:
+        return input(prompt)
+    finally:
+        readline.set_startup_hook(None)
+
+
+def remember(line):
+    """Adds a line to the history that was read elsewhere."""
+    if readline is not None and line:
+        readline.add_history(line)
+
+
 @contextlib.contextmanager
 def line_editing(complete):
     """History and completion, in a `with` block. `complete` gives the completions of a text after the words before it."""

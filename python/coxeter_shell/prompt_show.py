@@ -5,6 +5,7 @@ import os
 import re
 import select
 import shutil
+import signal
 import sys
 import termios
 import time
@@ -15,19 +16,33 @@ from .texts import counted
 # An answer that takes so many seconds is told with its time.
 LONG = 1.0
 
+# So many bytes of what is typed are read at once.
+MOST_TYPED = 4096
+
 NEXT = "space: the next page, a: all, q: no more"
 
 
 class Screen:
-    """Where answers go. `ahead` has the lines that were typed while an answer was shown."""
+    """Where answers go. `ahead` has the lines that were typed while an answer was awaited or shown, and None where the end was typed."""
 
     def __init__(self, interactive):
         self.interactive = interactive
-        self.ahead = []
+        self.ahead, self._begun = [], ""
+        self.said = 0  # so many lines since the last prompt
+
+    def begun_line(self):
+        """What was typed of the next line in that time."""
+        begun, self._begun = self._begun, ""
+        return begun
+
+    def forget(self):
+        """Drops what was typed."""
+        self.ahead, self._begun = [], ""
 
     def say(self, *lines):
         """What is no answer."""
         sys.stdout.flush()
+        self.said += len(lines)
         for line in lines:
             print(line, file=sys.stderr, flush=True)
 
@@ -67,7 +82,7 @@ class Screen:
     def _by_pages(self, lines):
         """Writes lines, and waits for a key before each page but the first. A line that is wider than the terminal takes several rows."""
         width, height = shutil.get_terminal_size()
-        rows = 0
+        rows = min(self.said, height // 2)
         for line in lines:
             for at in range(0, max(len(line), 1), width):
                 if rows == max(height - 1, 1) and not lines.unpaged:
@@ -82,33 +97,37 @@ class Screen:
 
     def _goes_on(self, lines, width):
         """Whether the reader wants more."""
-        lines.paged = True
+        first, lines.paged = not lines.paged, True
         sys.stdout.flush()
         begun = time.monotonic()
-        question = f"-- {lines.progress()}; {NEXT} --"[: width - 1]
         try:
-            if self._typed_ahead():
-                lines.unpaged = True
-                return True
-            sys.stderr.write(question)
-            sys.stderr.flush()
-            pressed = key()
+            pressed = self._pressed(f"-- {lines.progress()}; {NEXT} --"[: width - 1], first)
         finally:
             lines.waited += time.monotonic() - begun
-        sys.stderr.write(f"\r{' ' * len(question)}\r")
-        sys.stderr.flush()
-        lines.unpaged = pressed == b"a"
+        lines.unpaged = pressed in (b"a", None)
         lines.stopped = pressed in (b"q", b"Q", b"\x1b", b"\x04", b"")
         return not lines.stopped
 
-    def _typed_ahead(self):
-        """Whether lines were typed meanwhile that are to be run next. Then an answer is written without stops."""
-        while select.select([sys.stdin], [], [], 0)[0]:
-            data = os.read(sys.stdin.fileno(), 4096)
-            if not data:
-                break
-            self.ahead += [line for line in data.decode(errors="surrogateescape").splitlines() if line.strip()]
-        return bool(self.ahead)
+    def _pressed(self, question, first):
+        """The key that is pressed at a question. None where lines were typed that are to be run next: then the answer is written without stops."""
+        while not self.ahead[-1:] == [None] and typed():
+            self._take(os.read(sys.stdin.fileno(), MOST_TYPED))
+        with Keys(question) as keys:
+            # What was typed before the first question is the beginning of a line, and no answer. Before others it is one.
+            while first and not self.ahead and typed():
+                self._take(keys.next())
+            if self.ahead:
+                return None
+            keys.ask()
+            pressed = keys.next()
+        if b"\n" in pressed and pressed.strip():
+            self._take(pressed)
+        return None if self.ahead else pressed
+
+    def _take(self, data):
+        """Keeps what was typed for the next prompts: whole lines, and what there is of another one. Nothing is the end of the input."""
+        *lines, self._begun = (self._begun + data.decode(errors="surrogateescape")).replace("\r", "\n").split("\n")
+        self.ahead += [line for line in lines if line.strip()] + [None] * (not data)
 
 
 class Counted:
@@ -145,12 +164,66 @@ class Counted:
         return counted(self.shown - 1, "item") if listed else counted(self.shown, "line")
 
 
-def key():
-    """What the next key on the terminal sends."""
-    terminal = sys.stdin.fileno()
-    before = termios.tcgetattr(terminal)
-    try:
-        tty.setcbreak(terminal, termios.TCSADRAIN)
-        return os.read(terminal, 64)
-    finally:
-        termios.tcsetattr(terminal, termios.TCSADRAIN, before)
+def typed():
+    """Whether something was typed that is not read yet: a whole line where the terminal gives lines, else a key."""
+    return bool(select.select([sys.stdin], [], [], 0)[0])
+
+
+class Keys:
+    """The terminal, which gives each key when it is pressed, for a `with` block in which a question is asked.
+
+    Where the process is stopped meanwhile, as by Ctrl-Z, the terminal is as it was before; when it goes on, the question is asked anew.
+    """
+
+    def __init__(self, question):
+        self.question, self.asked, self.open = question, False, False
+        self.terminal = sys.stdin.fileno()
+        self.before = termios.tcgetattr(self.terminal)
+        self.handlers = {}
+
+    def __enter__(self):
+        try:
+            for it, call in ((signal.SIGTSTP, self._stop), (signal.SIGCONT, self._go_on)):
+                self.handlers[it] = signal.signal(it, call)
+            self.open = True
+            tty.setcbreak(self.terminal, termios.TCSADRAIN)
+        except BaseException:
+            self.__exit__()
+            raise
+        return self
+
+    def __exit__(self, *_):
+        self.open = False
+        self._wipe()
+        termios.tcsetattr(self.terminal, termios.TCSADRAIN, self.before)
+        for it, call in self.handlers.items():
+            signal.signal(it, call)
+
+    def ask(self):
+        sys.stderr.write(self.question)
+        sys.stderr.flush()
+        self.asked = True
+
+    def next(self):
+        """What the next key sends, or a pasted text."""
+        return os.read(self.terminal, MOST_TYPED)
+
+    def _wipe(self):
+        if self.asked:
+            sys.stderr.write(f"\r{' ' * len(self.question)}\r")
+            sys.stderr.flush()
+
+    def _stop(self, *_):
+        self._wipe()
+        termios.tcsetattr(self.terminal, termios.TCSADRAIN, self.before)
+        signal.signal(signal.SIGTSTP, signal.SIG_DFL)
+        os.kill(os.getpid(), signal.SIGTSTP)
+        signal.signal(signal.SIGTSTP, self._stop)
+        self._go_on()
+
+    def _go_on(self, *_):
+        if self.open:
+            tty.setcbreak(self.terminal, termios.TCSADRAIN)
+            if self.asked:
+                self._wipe()
+                self.ask()

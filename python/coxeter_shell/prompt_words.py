@@ -5,6 +5,7 @@ import re
 from .errors import CoxeterError, Refusal
 from .kinds import LABELS, MOST_RANK
 from .program import MOST_OF_LINE, MOST_OF_WORD
+from .progress import short
 
 # What stands in a word that the program doesn't read itself.
 SIGNS = re.compile(r"[*!^()]")
@@ -14,6 +15,12 @@ MOST_DIGITS = 9
 
 # The greatest arguments of `work`.
 MOST_START, MOST_COUNT = 65536, 1000000
+
+# What the shell works out by itself is said with these words.
+BY_PACKAGE = "by the package, not proved"
+
+# A word that was worked out is shown where it has at most so many letters.
+MOST_SHOWN = 36
 
 Token = collections.namedtuple("Token", "start text")
 
@@ -43,6 +50,15 @@ def tokens(line):
 def has_signs(word):
     """Whether a word has to be worked out before the program is asked."""
     return SIGNS.search(word) is not None
+
+
+def remark(typed, word, length):
+    """What is said of a word that was worked out: that of an element of this length.
+
+    >>> remark("12^-1", "21", 2), remark("*", "1" * 120, 120)
+    ('-- 12^-1 by the package, not proved: 21', '-- * by the package, not proved: an element of length 120')
+    """
+    return f"-- {short(typed)} {BY_PACKAGE}: {word if length <= MOST_SHOWN else f'an element of length {length}'}"
 
 
 def value(group, word):

@@ -50,15 +50,21 @@ class Schubert(Base):
     smooth, and one is singular. In groups that belong to no variety it is said which polynomials are 1, and no more.
     """
 
-    def is_rationally_smooth(self, w: Word) -> bool:
-        """Whether the Schubert variety of w is rationally smooth: P(e, w) = 1 (Kazhdan and Lusztig 1979). In simply laced types, A, D and
-        E, that is whether it is smooth; in types B, C, F and G a rationally smooth variety may be singular.
+    def is_rationally_smooth(self, w: Word, at: Word = ()) -> bool:
+        """Whether the Schubert variety of w is rationally smooth: P(e, w) = 1; or whether it is so at the point of x <= w, which is given as
+        `at`: P(x, w) = 1 (Kazhdan and Lusztig 1979; Carrell and Peterson 1994). In simply laced types, A, D and E, that is whether it is
+        smooth; in types B, C, F and G a rationally smooth variety may be singular, and `is_smooth` says whether it is.
 
         >>> W = CoxeterGroup("A", 3)
         >>> [W.text(w) for w in W.elements() if not W.is_rationally_smooth(w)]
         ['2132', '12321']
+        >>> W.is_rationally_smooth("2132", at="1"), W.is_rationally_smooth("2132", at="2")
+        (True, False)
         """
-        return self.kazhdan_lusztig_polynomial((), w) == 1
+        p = self.kazhdan_lusztig_polynomial(at, w)
+        if not p:
+            raise ValueError(f"{self.text(at)} is not below {self.text(w)}, so it is no point of the variety")
+        return p == 1
 
     def singular_locus(self, w: Word) -> List[Element]:
         """The list of the maximal x <= w where the Schubert variety of w is not rationally smooth, that is P(x, w) != 1. In simply laced

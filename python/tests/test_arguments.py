@@ -93,7 +93,8 @@ class Wrong(unittest.TestCase):
             whole = Permutation([4, 3, 2, 1])
             self.assertEqual((group.normal_form(whole), group.from_permutation(whole)), (group.long_element(),) * 2)
             self.raises(ValueError, "no permutation of 1 to 4", group.length, Permutation([3, 2, 1]))
-            self.raises(ValueError, "not given as permutations", CoxeterGroup("D", 4).length, whole)
+            self.raises(ValueError, "no permutation with signs", CoxeterGroup("D", 4).length, whole)
+            self.raises(ValueError, "not given as permutations", CoxeterGroup("E", 6).length, whole)
             self.raises(ValueError, "no permutation", other.length, Permutation([3, 2, 1]))
             self.raises(TypeError, "no element of a Coxeter group", group.length, stranger)
 

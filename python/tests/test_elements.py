@@ -347,6 +347,27 @@ class Permutations(unittest.TestCase):
                     u = random.choice(listed)
                     self.assertEqual(group.product(w, group.from_permutation(u)), group.from_permutation(times(values, u)))
 
+    def test_even_signed_permutations(self):
+        """Of D n: all of D 4 with their products, and some of D 6; lengths are by the formula of section 8.2."""
+        random.seed(7)
+        for n, count in ((4, None), (6, 150)):
+            with CoxeterGroup("D", n) as group:
+                signs = [it for it in itertools.product((1, -1), repeat=n) if it.count(-1) % 2 == 0]
+                plain = itertools.permutations(range(1, n + 1))
+                listed = [tuple(map(int.__mul__, values, sign)) for values in plain for sign in signs]
+                self.assertEqual(len(listed), group.cardinality())
+                found = set()
+                for values in random.sample(listed, count or len(listed)):
+                    w = group.from_permutation(values)
+                    found.add(w)
+                    self.assertEqual(group.to_permutation(w), values)
+                    other = [(n + 1 - abs(it)) * (1 if it > 0 else -1) for it in reversed(values)]
+                    inversions = sum(a > b for a, b in itertools.combinations(other, 2))
+                    self.assertEqual(len(w), inversions - sum(it + 1 for it in other if it < 0))
+                    u = random.choice(listed)
+                    self.assertEqual(group.product(w, group.from_permutation(u)), group.from_permutation(times(values, u)))
+                self.assertEqual(len(found), count or len(listed))
+
     def test_words_of_any_form(self):
         with CoxeterGroup("A", 3) as group:
             self.assertEqual(group.to_permutation("2312"), group.to_permutation([2, 1, 3, 2]))
@@ -361,7 +382,11 @@ class Permutations(unittest.TestCase):
             for values in ([1, 2], [1, 2, -2], [1, 2, 4]):
                 with self.assertRaises(ValueError):
                     group.from_permutation(values)
-        for kind in ("D 4", "G 2", "a 3"):
+        with CoxeterGroup("D", 4) as group:
+            for values in ([1, 2, 3, -4], [-1, -2, -3, 4], [1, 2, 3], [1, 2, 3, 4, 5], [1, 2, 2, 3]):
+                with self.assertRaises(ValueError):
+                    group.from_permutation(values)
+        for kind in ("E 6", "G 2", "a 3"):
             with CoxeterGroup(kind) as group, self.assertRaises(ValueError):
                 group.to_permutation("1")
 

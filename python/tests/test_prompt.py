@@ -36,6 +36,30 @@ def piped(script, *words, program=None):
     return ran.returncode, ran.stdout.decode(), ran.stderr.decode()
 
 
+# It runs the prompt in a group of processes of its own, as shells do. Where it is stopped, it says whether the terminal shows what is typed and
+# gives lines; and lets it go on after a line.
+JOB_CONTROL = """
+import os, signal, sys, termios
+signal.signal(signal.SIGTTOU, signal.SIG_IGN)
+child = os.fork()
+if child == 0:
+    os.setpgid(0, 0)
+    os.tcsetpgrp(0, os.getpid())
+    signal.signal(signal.SIGTTOU, signal.SIG_DFL)
+    os.execv(sys.executable, [sys.executable, "-m", "coxeter_shell"])
+while True:
+    _, status = os.waitpid(child, os.WUNTRACED)
+    if not os.WIFSTOPPED(status):
+        sys.exit(os.WEXITSTATUS(status))
+    os.tcsetpgrp(0, os.getpid())
+    modes = termios.tcgetattr(0)[3]
+    print("stopped:", bool(modes & termios.ECHO), bool(modes & termios.ICANON), flush=True)
+    input()
+    os.tcsetpgrp(0, child)
+    os.kill(child, signal.SIGCONT)
+"""
+
+
 class AtTerminal(unittest.TestCase):
     def ask(self, terminal, line):
         """What is shown behind a line, up to the next prompt."""
@@ -129,17 +153,17 @@ class AtTerminal(unittest.TestCase):
             terminal.type("6\n")
             terminal.expect("^E 6> ")
             terminal.type("type f\t4\n")
-            terminal.expect("^matrix 5 ..> ")
+            terminal.expect("^f 4> ")
             terminal.type("type A 1 \tA\t1\n")
             terminal.expect("type A 1 x A 1\n")
-            terminal.expect("^matrix 2 2> ")
+            terminal.expect("^A 1 x A 1> ")
             terminal.type("type C 6\n")
-            terminal.expect("^B 6> ")
+            terminal.expect("^C 6> ")
             terminal.type("ihb\t13\n")
-            terminal.expect("ihbetti 13\n1 2 1\nB 6> ")
+            terminal.expect("ihbetti 13\n1 2 1\nC 6> ")
             terminal.type("help slo\t\n")
             terminal.expect("help slocus ?\n")
-            terminal.expect("^B 6> ")
+            terminal.expect("^C 6> ")
 
     def test_page_by_page(self):
         with at_prompt(rows=10, columns=60) as terminal:
@@ -161,8 +185,10 @@ class AtTerminal(unittest.TestCase):
                 terminal.type(stop)
                 terminal.expect("A 4> ")
                 self.assertEqual(self.ask(terminal, "length 12"), "2\n")
+                # The remark on the word takes a row of the first page.
                 terminal.type("klbasis *\n")
-                terminal.expect("-- 8 of 120; ")
+                terminal.expect("^-- \\* by the package.*\n120\n")
+                terminal.expect("-- 7 of 120; ")
             # What is typed ahead is no answer to the question whether to go on.
             terminal.type("a")
             terminal.expect(r"^-- 120 items, .*\nA 4> ")
@@ -196,6 +222,87 @@ class AtTerminal(unittest.TestCase):
                 shown = terminal.expect(r"^(?:-- 30 items, \d+\.\d s\n)?A 4> length 12\n7\nA 4> ")
                 # The terminal may have shown what was typed at once.
                 self.assertEqual([it for it in shown.split("\n") if it not in ("", "length 12")], ["30"] + ["e"] * 30)
+
+    def slow(self, folder):
+        """A program that answers `lcells` by 30 elements, once there is a file, and a path that a test makes it at; else by 7."""
+        path = os.path.join(folder.folder.name, "typed")
+        waiting = f"while line == 'lcells' and not os.path.exists({path!r}):\n    time.sleep(0.01)\n"
+        return folder.fake(f"{waiting}say(*(['30'] + ['e'] * 30 if line == 'lcells' else ['7']))"), path
+
+    @unittest.skipIf(prompt_editing.readline is None, "Python has no readline")
+    def test_the_beginning_of_a_line_typed_ahead(self):
+        """It answers no question, and stands at the next prompt."""
+        with fakes.Fakes() as folder:
+            slow, typed = self.slow(folder)
+            with at_prompt("--program", slow, rows=10) as terminal:
+                terminal.expect("coxeter> ")
+                self.ask(terminal, "type A 4")
+                terminal.type("lcells\n")
+                terminal.expect("lcells\n")
+                terminal.type("quex\x7f")
+                time.sleep(0.5)
+                open(typed, "w", encoding="ascii").close()
+                terminal.expect("-- 8 of 30; space")
+                terminal.type(" ")
+                terminal.expect("-- 17 of 30; space")
+                terminal.type("q")
+                terminal.expect("^A 4> que")
+                terminal.type("\x15length 1\n")
+                terminal.expect("length 1\n7\nA 4> ")
+                # The up arrow brings what was typed last.
+                terminal.type("\x1b[A2\n")
+                terminal.expect("length 12\n7\nA 4> ")
+
+    @unittest.skipIf(prompt_editing.readline is None, "Python has no readline")
+    def test_lines_typed_at_a_question_and_the_end(self):
+        """A line that is pasted at the end of a page is run next. It is in the history, and Ctrl-D behind it ends the shell."""
+        with fakes.Fakes() as folder:
+            slow, typed = self.slow(folder)
+            open(typed, "w", encoding="ascii").close()
+            with at_prompt("--program", slow, rows=10) as terminal:
+                terminal.expect("coxeter> ")
+                self.ask(terminal, "type A 4")
+                terminal.type("lcells\n")
+                terminal.expect("-- 8 of 30; space")
+                terminal.type("length 1\n")
+                terminal.expect(r"^-- 30 items, .*\nA 4> length 1\n7\nA 4> ")
+                terminal.type("\x1b[A2\n")
+                terminal.expect("length 12\n7\nA 4> ")
+                os.remove(typed)
+                terminal.type("lcells\n")
+                terminal.expect("lcells\n")
+                terminal.type("length 13\n\x04")
+                time.sleep(0.5)
+                open(typed, "w", encoding="ascii").close()
+                terminal.expect(r"^A 4> length 13\n7\nA 4> \n")
+                self.assertEqual(terminal.ended(), 0)
+
+    def test_stopped_at_the_end_of_a_page(self):
+        """Ctrl-Z leaves the terminal as it was, and the question is asked anew behind it."""
+        with terminals.Terminal("-c", JOB_CONTROL, rows=10, columns=60) as terminal:
+            terminal.expect("coxeter> ")
+            self.ask(terminal, "type A 4")
+            terminal.type("lcells\n")
+            terminal.expect("-- 8 of 26; space: the next page")
+            for keys, after in ((" ", "17"), (" ", "26")):
+                terminal.type("\x1a")
+                terminal.expect("stopped: True True\n")
+                terminal.type("fg\n")
+                terminal.expect("^fg\n")
+                terminal.expect("of 26; space: the next page, a: all, q: no more --")
+                terminal.type(keys)
+                terminal.expect(f"-- {after} of 26; space" if after != "26" else "^-- 26 items")
+            terminal.expect("A 4> ")
+            self.assertEqual(self.ask(terminal, "length 12"), "2\n")
+
+    def test_pasted_lines_behind_the_end(self):
+        """What stands behind `q` in a text that was pasted is not run."""
+        shell = prompt.Shell()
+        taken = []
+        with unittest.mock.patch.object(shell, "_taken", lambda line: taken.append(line) or line != "q"):
+            with unittest.mock.patch.object(shell, "_read", lambda: "type A 3\n\x0bq\nq\nlength 1"):
+                self.assertFalse(shell._turn())
+        self.assertEqual(taken, ["type A 3", "\x0bq", "q"])
 
     def test_interrupts(self):
         with fakes.Fakes() as folder:
@@ -251,11 +358,12 @@ class AtTerminal(unittest.TestCase):
         with at_prompt() as terminal:
             terminal.expect("coxeter> ")
             self.ask(terminal, "type A 3")
-            for line in ("jobs", "pol 2 2132  # a comment", "", "next", "length *", "compute 14"):
+            for line in ("jobs", "pol 2 2132  # a comment", "", "next", "compute 14"):
                 self.assertEqual(self.ask(terminal, line), "")
+            self.assertEqual(self.ask(terminal, "length *"), "-- * by the package, not proved: 121321\n")
             self.assertIn("error 10", self.ask(terminal, "type B 3"))
             self.assertEqual(terminal.shown[terminal.shown.rindex("\n") + 1 :], "jobs> ")
-            self.assertEqual(self.ask(terminal, "end"), f"1+q\n6\nerror 16: {Refusal(16, '').meaning} (compute 14)\n")
+            self.assertEqual(self.ask(terminal, "end"), f"1+q\nerror 16: {Refusal(16, '').meaning} (compute 14)\n6\n")
             self.ask(terminal, "jobs")
             time.sleep(0.5)
             terminal.type("\x03")
@@ -397,7 +505,7 @@ class InPipes(unittest.TestCase):
         self.assertNotIn("Traceback", told)
 
     def test_the_reader_is_gone(self):
-        words = f"printf 'type A 5\\nklbasis *\\n' | {sys.executable} -m coxeter_shell | head -2"
+        words = f"printf 'type A 5\\nklbasis 121321432154321\\n' | {sys.executable} -m coxeter_shell | head -2"
         ran = subprocess.run(words, shell=True, capture_output=True, timeout=60)
         self.assertEqual((ran.stdout, ran.stderr), (b"720\ne:1\n", b""))
 
@@ -407,8 +515,56 @@ class InPipes(unittest.TestCase):
         self.assertRegex(told, "^coxeter_shell: there is no program '/no/such/program'")
 
     def test_options(self):
-        self.assertEqual(piped("type A 3\nbetti *\n", "--context", "23")[0], 1)
-        self.assertEqual(piped("type A 3\nbetti *\n", "--context", "24", "--workers", "2"), (0, "1 3 5 6 5 3 1\n", ""))
+        self.assertEqual(piped("type A 3\nbetti 121321\n", "--context", "23")[0], 1)
+        self.assertEqual(piped("type A 3\nbetti 121321\n", "--context", "24", "--workers", "2"), (0, "1 3 5 6 5 3 1\n", ""))
+
+    def test_what_is_worked_out_is_marked(self):
+        """Each word with signs, and each name of a group in whose place the program gets another one. The others are not."""
+        long = "4" * 50
+        script = ["type A 3", "pol 2 (2132)!", "length *", "compute 12^-1*", "mu e (12)^3", f"compute {long}!", "length 121", "inorder * *", "rank 5"]
+        status, out, told = piped("\n".join([*script, "slocus (12321)!", "length (", "jobs", "length 1!", "end"]))
+        self.assertEqual((status, out), (1, "1+q\n6\n1321\n0\n3\ntrue\n1\n13\n1\n"))
+        self.assertEqual([line for line in told.splitlines() if line.startswith("--")], [
+            "-- (2132)! by the package, not proved: 2132",
+            "-- * by the package, not proved: 121321",
+            "-- 12^-1* by the package, not proved: 1321",
+            "-- (12)^3 by the package, not proved: e",
+            "-- * by the package, not proved: 121321",
+            "-- (12321)! by the package, not proved: 12321",
+            "-- made by the package from answers of the program, not proved",
+            "-- 1! by the package, not proved: 1",
+        ])
+        told = piped("type E8\nlength *\ntype a 3\ntype C3\nrank 4\ntype b 3\ntype A 1xG2\ntype F 4\nmatrix 2 4\n")[2].splitlines()
+        other = "-- Coxeter 3 numbers the nodes of B, D and F the other way round"
+        self.assertEqual(told, [
+            "-- * by the package, not proved: an element of length 120",
+            "-- type C 3 by the package, not proved: type B 3",
+            other,
+            "-- type C 4 by the package, not proved: type B 4",
+            other,
+            "-- type b 3 by the package, not proved: matrix 4 3 2 2 4 3 2",
+            "-- type A 1 x G 2 by the package, not proved: matrix 3 2 2 6",
+            other,
+        ])
+
+    def test_why_a_type_is_not_there(self):
+        for name, why in (("h 3", "H 3 has a label other than"), ("H 4", "H 4 has a label"), ("E 9", "are E 6 to E 8"), ("k 3", "the letters are A,")):
+            told = piped(f"type {name}\n")[2]
+            self.assertRegex(told, f"^  type {name}\n +\\^+\nerror 13: there is no such type: .*{why}")
+        told = piped("type a 2\nlcells\n")[2]
+        self.assertRegex(told, "error 31: .*: the group is infinite")
+
+    def test_names_of_groups(self):
+        """`type`, `rank` and the prompt keep the name by which a group was set."""
+        script = ["type b 3", "type", "rank", "rank 4", "type", "type C3", "rank 05", "type", "type A2xc 02", "type", "rank", "matrix 2 6", "type"]
+        status, out, told = piped("\n".join(script))
+        self.assertEqual((status, out), (0, "type b 3\n4\ntype b 3\ntype C 5\ntype A 2 x c 2\n5\nmatrix 2 6\n"))
+        told = piped("type A 2 x B 2\nrank 3\ntype b 3\nrank 2\nrank 17\n")[2]
+        self.assertRegex(told, "(?s)the group is a product.*error 13.*error 13")
+        shell = prompt.Shell()
+        for name, sign in (("A 2 x B 2", "A 2 x B 2> "), (" x ".join(["A 1"] * 7), "A 1 ..> "), ("b 12", "b 12> ")):
+            shell.name = name
+            self.assertEqual(shell.prompt(), sign)
 
     def test_groups(self):
         script = "type A3\nrank\nrank 5\ntype\nlength *\ntype a 3\nrank\nrank 3\ntype\nmatrix 2 0\ntype\nrank 3\n"
