@@ -7,7 +7,7 @@ use Rattle.cox_context.specs.Numbers.{word_at}
 use Rattle.cox_row.specs.Rising.{number_at}
 use Rattle.cox_row.specs.Extremal.{IsExtremal}
 use Rattle.cox_row.proofs.RisingNumbers.{rising-most}
-use Rattle.cox_row_builder.specs.Candidates.{AreExtremalUpTo}
+use Rattle.cox_klstep.specs.ExtremalUpTo.{AreExtremalUpTo}
 use Rattle.cox_row_builder.specs.Underway.{AreBare}
 
 -- each extremal member from the one done up to w is listed at some later place, and those are not before the one done

@@ -1,3 +1,7 @@
+pub mod ExtremalBits
+pub mod WordBits
+pub mod DescentsKept
+pub mod PickedNumbers
 pub mod AddedSums
 pub mod NumberedLists
 pub mod NumberedRecursion

@@ -1,3 +1,5 @@
+pub mod ExtremalUpTo
+pub mod DescentBits
 pub mod StepOf
 pub mod CorrectionSums
 pub mod SourceOf

@@ -8,7 +8,7 @@ use Rattle.cox_context.specs.Closed.{Elements}
 use Rattle.cox_context.specs.Numbers.{word_at}
 use Rattle.cox_context.specs.Numbering.{IsNumberOf}
 use Rattle.cox_row.specs.Rising.{number_at}
-use Rattle.cox_row_builder.specs.Candidates.{AreExtremalUpTo}
+use Rattle.cox_klstep.specs.ExtremalUpTo.{AreExtremalUpTo}
 use Rattle.cox_klstep.specs.declared.lowering.Lowered.{Lowered}
 use Rattle.cox_klstep.specs.declared.step.Step.{Step}
 

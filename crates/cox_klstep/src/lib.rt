@@ -9,16 +9,20 @@
 //! - `member`: the row of a member, and the rows that a row is made from
 //! - `choice`: which step is taken
 //! - `step`: the descent, the shorter element and the corrections
+//! - `descent_bits`: which members each letter shortens, by bits
+//! - `extremal`: the extremal members up to the member, chosen by these
 //! - `lowering`: the extremal members up to the member, and where the step leads from them
 //! - `plan`: a row that is to be made, once threads have had the chance to find polynomials of it
 //! - `task`: what a row is made from
 //! - `making`: the row, one extremal member after another
 //! - `sums`: the polynomial at one extremal member, by the recursion
 //! - `parallel`: polynomials that several threads find before the row is made
-//! - `tables`: lists of candidates, symmetries, and what is kept from row to row
+//! - `tables`: symmetries, the descents of all members, and what is kept from row to row
 #![tactic(auto)]
 
 mod choice;
+mod descent_bits;
+mod extremal;
 mod lowering;
 mod making;
 mod member;

@@ -2,16 +2,19 @@
 //!
 //! What is known of a member, and where shifts lead from it, stands all over memory. So it is looked up in tight loops that do nothing
 //! else, in which the processor waits for several members at a time.
-ghost use Rattle.std.specs.Prelude.{◌≡◌, ◌+◌, ◌<◌, length, OnOk};
+ghost use Rattle.std.specs.Prelude.{◌≡◌, ◌<◌, length, OnOk};
 ghost use Rattle.cox_row.specs.Rising.{number_at};
 ghost use Rattle.cox_klstep.specs.StepOf.{IsRowStep};
-ghost use Rattle.cox_row_builder.specs.Candidates.{AreCandidates, AreExtremalUpTo};
+ghost use Rattle.cox_klstep.specs.DescentBits.{AreDescentBits};
+ghost use Rattle.cox_klstep.specs.ExtremalUpTo.{AreExtremalUpTo};
 ghost use Rattle.cox_row_builder.specs.TargetOf.{IsTarget};
 ghost use Rattle.cox_klstep.specs.LoweredTo.{AreLowered, IsLoweredBy};
 
+use crate::descent_bits::DescentBits;
+use crate::extremal::choose_extremal;
 use crate::step::Step;
 use cox_context::Context;
-use cox_row_builder::{Target, choose_extremal};
+use cox_row_builder::Target;
 use cox_row_symmetry::shift;
 use std::alloc::{AllocError, Global};
 
@@ -20,6 +23,8 @@ use std::alloc::{AllocError, Global};
 pub struct Lowered {
     pub(crate) members: Vec<u32>,
     pub(crate) shorter: Vec<u32>,
+    /// Which members are chosen, by bits; whatever they are is right.
+    words: Vec<u64>,
 }
 
 /// A member and the one to which the step leads from it.
@@ -35,24 +40,26 @@ impl Lowered {
         Lowered {
             members: Vec::new(alloc),
             shorter: Vec::new(alloc),
+            words: Vec::new(alloc),
         }
     }
 
-    /// Becomes those of a member and a step to it, in place of what there was. They are chosen from the candidates for its left descents.
+    /// Becomes those of a member and a step to it, in place of what there was. They are chosen by their descents.
     pub(crate) fn fill(
         &mut self,
         ctx: &Context,
         target: &Target,
         step: &Step,
-        candidates: &[u32],
+        descents: &DescentBits,
     ) -> Result<(), AllocError>
         requires target { IsTarget ctx.now target.now }
-        requires candidates { AreCandidates ctx.now (target.now.member + 1) target.now.left candidates.now }
+        requires descents { AreDescentBits ctx.now descents.now }
+        requires done { descents.now.done ≡ length ctx.now.members }
         requires step { IsRowStep ctx.now step.now }
         requires member { step.now.member ≡ target.now.member }
         ensures { OnOk result (IsLoweredBy ctx.now target.now.member step.now self.new) }
     {
-        choose_extremal(ctx, target, candidates, &mut self.members)?;
+        choose_extremal(ctx, target, descents, &mut self.words, &mut self.members)?;
         lower_each(ctx, step, &self.members, &mut self.shorter)
     }
 

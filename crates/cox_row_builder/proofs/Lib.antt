@@ -1,6 +1,3 @@
-pub mod PickedNumbers
-pub mod ListsOfCandidates
-pub mod PickedExtremals
 pub mod Shifts
 pub mod PoolPrints
 pub mod FoundPolynomials

@@ -2,7 +2,6 @@ pub mod Limits
 pub mod LargeMembers
 pub mod Faults
 pub mod TargetOf
-pub mod Candidates
 pub mod Prints
 pub mod Underway
 pub mod Counted

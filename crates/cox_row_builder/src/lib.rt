@@ -1,12 +1,10 @@
 //! A row of Kazhdan-Lusztig polynomials while it is made: what it is put together from, whatever the recursion is that gives P(x,w).
 //!
-//! For a member w the extremal x up to it are chosen from lists of candidates. One after another, a `RowBuilder` is given the polynomial
-//! of each, or is told that x is not below w. It keeps each polynomial once, and mu(x,w), and notes where a coefficient is above the limit.
+//! For a member w a `RowBuilder` is given the polynomial of each extremal x up to it, one after another, or is told that x is not below w. It keeps each polynomial once, and mu(x,w), and notes where a coefficient is above the limit.
 //! At the end it gives the row of w, which is proved to be that, or the first coefficient or value of mu that is beyond its limit. The
 //! crate stands on rows and contexts, and adds no polynomials up.
 //!
 //! - `target`: the member w, its descents, and the shifts sw and ws that are shorter
-//! - `candidates`: the members that may be extremal for w, and those that are
 //! - `builder`: the row that is being made
 //! - `polynomials`: its polynomials, at the extremal members
 //! - `pool`: polynomials, each once, found again by their fingerprints
@@ -18,7 +16,6 @@
 #![tactic(auto)]
 
 mod builder;
-mod candidates;
 mod fault;
 mod identity;
 mod large;
@@ -29,7 +26,6 @@ mod steps;
 mod target;
 
 pub use builder::RowBuilder;
-pub use candidates::{CandidateLists, choose_extremal, push_if};
 pub use fault::StepFault;
 pub use identity::{identity_row, identity_row_within};
 pub use steps::Steps;

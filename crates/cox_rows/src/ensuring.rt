@@ -4,7 +4,7 @@
 //! made first, by recursion to smaller numbers. Where all rows are asked for, they are made in the order of the members, and corrections
 //! are not looked for. A member is settled when no row of its Need is beyond the limits and all of them are held. That is noted, so that
 //! nothing is looked at twice. Where a row is taken out, all notes are forgotten.
-ghost use Rattle.std.specs.Prelude.{◌≡◌, ◌≢◌, ℕ, ℤ, ◌<◌, ◌≤◌, ◌∷◌, length, IsTrue, IfOk, IfErr, OnOk, false};
+ghost use Rattle.std.specs.Prelude.{◌≡◌, ◌≢◌, ℕ, ℤ, ◌<◌, ◌≤◌, ◌∷◌, length, IsTrue, IfOk, IfErr, IfSome, OnOk, Ok, None, false};
 ghost use Rattle.cox_base.specs.declared.side.Side.TheVariants.{Left};
 ghost use Rattle.cox_base.specs.IntegerMatrix.{integer_matrix};
 ghost use Rattle.cox_hecke.specs.Needs.{IsNeeded};
@@ -25,6 +25,7 @@ ghost use Rattle.cox_rows.specs.Ensured.{HoldsNeed, AreNeededBefore, IsEnsured, 
 use crate::Rows;
 use crate::flags::set_at;
 use cox_base::Side;
+use cox_context::Context;
 use cox_klstep::{Descent, StepFault, Tables, needs, shortens};
 use cox_row::Row;
 use std::alloc::{AllocError, Global};
@@ -350,10 +351,7 @@ impl Rows {
         ensures same { self.new ≡ self.old }
         ensures tables { IfOk result (AreTables self.old.elements) }
     {
-        match self.tables.take() {
-            Some(tables) => Ok(tables),
-            None => Tables::of(alloc, self.held.context()),
-        }
+        taken_or_new(alloc, self.held.context(), &mut self.tables)
     }
 
     /// Notes that the member with the number i is settled, where its row is there and all that the row is made from is settled.
@@ -369,5 +367,22 @@ impl Rows {
         let _context = self.held.context();
         set_at(&mut self.settled, i as usize)?;
         Ok(())
+    }
+}
+
+/// The tables that there are, which are taken out; new ones of the context where there are none.
+fn taken_or_new(
+    alloc: Global,
+    context: &Context,
+    tables: &mut Option<Tables>,
+) -> Result<Tables, AllocError>
+    requires { IfSome tables.old (AreTables context.now) }
+    ensures tables { IfOk result (AreTables context.now) }
+    ensures same { IfSome tables.old (λ old. result ≡ Ok old) }
+    ensures none { tables.new ≡ None }
+{
+    match tables.take() {
+        Some(tables) => Ok(tables),
+        None => Tables::of(alloc, context),
     }
 }

@@ -221,7 +221,7 @@ impl Rows {
 }
 
 /// Tables of the context, from those that it had when it had fewer members, so many. There are none where it is twice as large now, since
-/// new ones may know more symmetries, or where memory does not suffice. The next row makes new ones.
+/// new ones may know more symmetries. The next row makes new ones.
 fn grown(context: &Context, before: u32, tables: Option<Tables>) -> Option<Tables>
     requires { IfSome tables (AreEarlierTables context.now) }
     ensures { IfSome result (AreTables context.now) }
@@ -230,10 +230,8 @@ fn grown(context: &Context, before: u32, tables: Option<Tables>) -> Option<Table
     if context.len() / 2 >= before {
         return None;
     }
-    match tables.grow(context) {
-        Ok(()) => Some(tables),
-        Err(_) => None,
-    }
+    tables.grow(context);
+    Some(tables)
 }
 
 impl LowerRows for Rows {
