@@ -7,8 +7,8 @@ import subprocess
 from typing import Optional, Union
 
 from . import parents, texts
-from .errors import CheckFailed, ProgramNotFound, UnexpectedAnswer
-from .program import check_interpreter, find_program
+from .errors import CheckFailed, ProgramNotFound, QuestionTimeout, UnexpectedAnswer
+from .program import check_interpreter, find_program, seconds
 from .tables import ElementDict
 
 # The most elements below the element of a certificate, the most letters of it, which is the greatest degree too, and the greatest coefficient.
@@ -43,11 +43,12 @@ class Verdict(collections.namedtuple("Verdict", "ok cause meaning")):
         return self.ok
 
 
-def check(text: Union[str, bytes, bytearray, memoryview], program: Optional[str] = None) -> Verdict:
+def check(text: Union[str, bytes, bytearray, memoryview], program: Optional[str] = None, timeout: Optional[float] = None) -> Verdict:
     """What the program `coxcheck` says of a certificate, which is given as a text or as bytes: a Verdict.
 
     The checker is proved, and shares no algorithm with the program that made the certificate. `program` is its path; else it is found as
-    `find_program` says. A CheckFailed is raised where it ends without a verdict, as it does for want of memory and for more than 16 MiB.
+    `find_program` says. A CheckFailed is raised where it ends without a verdict, as it does for want of memory and for more than 16 MiB, and a
+    QuestionTimeout where it has none after so many seconds.
 
     >>> certificate = CoxeterGroup("A", 2).certificate("12")
     >>> check(certificate)
@@ -55,7 +56,10 @@ def check(text: Union[str, bytes, bytearray, memoryview], program: Optional[str]
     >>> check(certificate.replace("e:1", "e:1+q"))
     Verdict(ok=False, cause=5, meaning='its polynomials are not the row of its element')
     """
-    data = bytes(text) if isinstance(text, (bytes, bytearray, memoryview)) else text.encode("utf-8", "surrogatepass")
+    if not isinstance(text, (str, bytes, bytearray, memoryview)):
+        raise TypeError(f"a certificate is a text, or bytes, and not {text!r}")
+    data = text.encode("utf-8", "surrogatepass") if isinstance(text, str) else bytes(text)
+    timeout = seconds(timeout)
     path = find_program(program, "coxcheck")
     check_interpreter(path)
     try:
@@ -64,9 +68,11 @@ def check(text: Union[str, bytes, bytearray, memoryview], program: Optional[str]
         raise ProgramNotFound(f"the program {path!r} can't be run: {error}") from error
     with process:
         try:
-            said = process.communicate(data)[0].decode("latin-1")
-        except BaseException:
+            said = process.communicate(data, timeout)[0].decode("latin-1")
+        except BaseException as error:
             process.kill()
+            if isinstance(error, subprocess.TimeoutExpired):
+                raise QuestionTimeout("a certificate", timeout) from None
             raise
     return verdict(process.returncode, said)
 

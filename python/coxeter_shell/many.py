@@ -138,7 +138,7 @@ class Many(Base):
     def _certified(self, w, text, checker):
         """The row of a certificate, if that is one of this element, and the checker accepts it."""
         line = self._line("cert", (w,))
-        said = certificates.check(text, checker)
+        said = certificates.check(text, checker, self.timeout)
         if not said:
             self.program.unexpected(line, text, f"coxcheck says no: {said.meaning}")
         return self._read(lambda it: certificates.row(self, w, it), line, text.splitlines())

@@ -28,6 +28,9 @@ class Spelling:
         self.values = {str(letter): letter for letter in range(1, rank + 1)}
         self.elements = Known(self._element)
         self.pairs = Known(self._pair)
+        # What reads the text of an element, and that of an element and a polynomial.
+        self.element = self.elements.__getitem__
+        self.pair = self.pairs.__getitem__
 
     def write(self, word):
         """The text of a word, which is given as a text or as letters."""
@@ -54,14 +57,6 @@ class Spelling:
             return tuple(map(self.values.__getitem__, pieces))
         except KeyError as piece:
             raise ValueError(f"{piece} is no letter of the group") from None
-
-    def element(self, text):
-        """The element of a text."""
-        return self.elements[text]
-
-    def pair(self, text):
-        """The element and the polynomial of a text."""
-        return self.pairs[text]
 
     def _pair(self, text):
         element, _, polynomial = text.partition(":")
