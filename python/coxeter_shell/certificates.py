@@ -72,7 +72,7 @@ def check(text: Union[str, bytes, bytearray, memoryview], program: Optional[str]
         except BaseException as error:
             process.kill()
             if isinstance(error, subprocess.TimeoutExpired):
-                raise QuestionTimeout("a certificate", timeout) from None
+                raise QuestionTimeout("a certificate", error.timeout) from None
             raise
     return verdict(process.returncode, said)
 
@@ -92,8 +92,7 @@ def verdict(status, said):
 def read_lines(spelling, matrix, lines):
     """The element, and the pairs of an element and a polynomial, of the lines of a certificate over the group with this Coxeter matrix.
     Lines of another shape are a ValueError."""
-    labels = [0 if label == math.inf else label for s, row in enumerate(matrix) for label in row[s + 1 :]]
-    if lines[:1] != [" ".join(map(str, ["cert", len(matrix), *labels]))]:
+    if lines[:1] != [head_of(matrix)]:
         raise ValueError("its first line should be `cert` and the group")
     if len(lines) < 5 or not lines[1].startswith("element ") or lines[2] != f"rows {len(lines) - 4}" or lines[-1] != "end":
         raise ValueError("it should have the lines `element`, `rows` and so many rows, and `end`")
@@ -102,6 +101,23 @@ def read_lines(spelling, matrix, lines):
     if pairs[-1][0] != element:
         raise ValueError("its last row should be that of its element")
     return element, pairs
+
+
+def text_of(group, w, row):
+    """The text of the certificate of a row, as the program writes it.
+
+    >>> W = CoxeterGroup("B", 3)
+    >>> text_of(W, (2, 3), W.kazhdan_lusztig_basis("23")) == W.certificate("23")
+    True
+    """
+    pairs = [f"{group.text(x)}:{p}" for x, p in row.items()]
+    return "".join(f"{line}\n" for line in [head_of(group._matrix), f"element {group.text(w)}", f"rows {len(pairs)}", *pairs, "end"])
+
+
+def head_of(matrix):
+    """The first line of the certificates of a group."""
+    labels = [0 if label == math.inf else label for s, row in enumerate(matrix) for label in row[s + 1 :]]
+    return " ".join(map(str, ["cert", len(matrix), *labels]))
 
 
 def row(group, w, lines):

@@ -156,7 +156,10 @@ class CoxeterGroup(Elements, Names, CellTheory, Schubert, Hecke, Many, Jobs):
         >>> CoxeterGroup("A", 3).text([2, 1, 3, 2]), CoxeterGroup("A", 10).text([10, 9]), CoxeterGroup("A", 3).text([])
         ('2132', '10.9', 'e')
         """
-        return self._spelling.write(self._of_sage(word) if hasattr(word, "reduced_word") else word)
+        try:
+            return self._spelling.write(self._of_sage(word) if hasattr(word, "reduced_word") else word)
+        except Refusal as refusal:
+            raise self._shown(refusal)
 
     def set_text(self, letters: Sequence[int]) -> str:
         """A set of letters as the program writes it.
@@ -493,7 +496,11 @@ class CoxeterGroup(Elements, Names, CellTheory, Schubert, Hecke, Many, Jobs):
     # ---- questions and the shapes of answers
 
     def _line(self, command, words):
-        return " ".join([command, *map(self.text, words)])
+        try:
+            return " ".join([command, *map(self.text, words)])
+        except Refusal as refusal:
+            # The word is shown as it was given, for there is no line that the program could refuse.
+            raise self._shown(Refusal(refusal.number, f"{command} {refusal.line}"))
 
     # An error is raised anew in the methods that follow, without the frames below: so what is shown are the frames of the user, the
     # method that was called, and one of these.

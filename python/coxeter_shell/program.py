@@ -584,9 +584,11 @@ os.register_at_fork(after_in_child=forked)
 def find_program(path: Optional[str] = None, name: str = "coxeter") -> str:
     """The path of the program `coxeter`, or of `coxcheck`, by its name.
 
-    It is `path`, else what the environment variable COXETER names, or COXCHECK, else the program that came with this package, else the
+    It is `path`, which is a file where there is one of this name, and else a command on the PATH; else what the environment variable COXETER names, or COXCHECK, else the program that came with this package, else the
     one built in the checkout that it lies in or was installed from, else the command on the PATH.
     """
+    if path and os.path.isfile(path) and os.access(path, os.X_OK):
+        return path if os.path.dirname(path) else os.path.join(os.curdir, path)
     named = path or os.environ.get(name.upper())
     if named:
         found = shutil.which(named)
