@@ -244,12 +244,12 @@ class Files(unittest.TestCase):
             with self.assertWarns(RuntimeWarning), self.assertRaises(UnexpectedAnswer), fakes.Fakes() as folder:
                 group.kazhdan_lusztig_table(path=self.path, certified=True, checker=folder.shell("cat >/dev/null; echo no 5; exit 1"))
 
-    def test_each_line_is_wanted(self):
+    def test_lines_are_wanted(self):
         """Of a file without one of its lines no row is used that isn't whole."""
         with CoxeterGroup("A", 3) as group:
             right = group.kazhdan_lusztig_table(path=self.path)
             lines = self.text().splitlines(keepends=True)
-            for number in range(len(lines)):
+            for number in sorted({*range(4), *range(4, len(lines), 4), len(lines) - 1}):
                 self.write("".join(lines[:number] + lines[number + 1 :]))
                 of = lines[number].split(",")[0]
                 with self.subTest(lines[number]), warnings.catch_warnings(record=True) as said:
