@@ -69,7 +69,8 @@ def package():
     # What build_sdist packs has the documents in the package, and is no checkout.
     folder = os.path.join(CHECKOUT, "docs") if os.path.basename(TOP) == "python" else PACKAGE
     paths += filter(os.path.isfile, (os.path.join(folder, it) for it in DOCUMENTS))
-    return {f"coxeter_shell/{os.path.basename(it)}": read(it) for it in paths}
+    files = {f"coxeter_shell/{os.path.basename(it)}": read(it) for it in paths}
+    return {**files, "coxeter_shell/VERSION": f"{module('version').version()}\n".encode()}
 
 
 def read(path):
@@ -93,9 +94,7 @@ def programs(config_settings):
         if not os.path.isfile(places["coxeter"]):
             sys.exit(f"coxeter_shell: there is no program {places['coxeter']}")
     found = {f"coxeter_shell/programs/{name}": read(path) for name, path in places.items() if os.path.isfile(path)}
-    spec = importlib.util.spec_from_file_location("elf", os.path.join(PACKAGE, "elf.py"))
-    elf = importlib.util.module_from_spec(spec)
-    spec.loader.exec_module(elf)
+    elf = module("elf")
     for name, data in found.items():
         if elf.machine(data) != elf.X86_64:
             sys.exit(f"coxeter_shell: {os.path.basename(name)} is no program of Linux on x86-64")
@@ -116,12 +115,19 @@ def of_checkout():
     return places, None
 
 
+def module(name):
+    """A file of the package that imports nothing of it."""
+    spec = importlib.util.spec_from_file_location(name, os.path.join(PACKAGE, f"{name}.py"))
+    found = importlib.util.module_from_spec(spec)
+    spec.loader.exec_module(found)
+    return found
+
+
 def described(needs=None):
     """The name of the package with its version, and its metadata."""
     with open(os.path.join(TOP, "pyproject.toml"), encoding="utf-8") as project:
         fields = dict(re.findall('^(name|description|requires-python) = "(.*)"$', project.read(), re.M))
-    with open(os.path.join(PACKAGE, "__init__.py"), encoding="utf-8") as package:
-        fields["version"] = re.search('^__version__ = "(.*)"$', package.read(), re.M).group(1)
+    fields["version"] = module("version").version()
     metadata = [
         "Metadata-Version: 2.1",
         f"Name: {fields['name']}",

@@ -1,9 +1,11 @@
 """Coxeter groups by the program `coxeter`, for Python and Sage."""
+from .base import Word
 from .certificates import Verdict, check
 from .classes import ConjugacyClasses
 from .errors import (
     CheckFailed,
     CoxeterError,
+    ExecutorFailed,
     JobRefusal,
     ProgramClosed,
     ProgramEnded,
@@ -25,11 +27,8 @@ from .program import Program, find_program
 from .provenance import Provenance, Release
 from .right_modules import RightCellModule
 from .schubert import SchubertVariety
-from .tables import Cells, ElementDict, PairDict, RowTable, Table
+from .tables import Cells, ElementDict, KazhdanLusztigTable, PairDict, RowTable, Table
 from .texts import gap
-
-# The version of the whole, the programs too; docs/RELEASES.md lists them all.
-__version__ = "1.1"
 
 __all__ = [
     "Answers",
@@ -41,9 +40,11 @@ __all__ = [
     "CoxeterError",
     "CoxeterGroup",
     "ElementDict",
+    "ExecutorFailed",
     "HasseDiagram",
     "InV",
     "JobRefusal",
+    "KazhdanLusztigTable",
     "Laurent",
     "PairDict",
     "Polynomial",
@@ -55,11 +56,8 @@ __all__ = [
     "Provenance",
     "QuestionTimeout",
     "Refusal",
-    "Release",
     "RightCellModule",
-    "RowTable",
     "SchubertVariety",
-    "Table",
     "Unanswered",
     "UnexpectedAnswer",
     "UnexpectedResult",
@@ -67,10 +65,17 @@ __all__ = [
     "Vertex",
     "WGraph",
     "Work",
-    "check",
     "find_program",
-    "gap",
 ]
+
+
+def __getattr__(name):
+    """`__version__`, which is worked out when it is asked for."""
+    if name == "__version__":
+        from .version import version
+
+        return version()
+    raise AttributeError(f"module {__name__!r} has no attribute {name!r}")
 
 
 def load_ipython_extension(ipython):

@@ -1,13 +1,26 @@
 """The package from the command line: python -m coxeter_shell is a prompt, and there are pictures:
 python -m coxeter_shell hasse "A 3" 2132 --out h.svg"""
 import argparse
+import os
 import sys
 
-from . import pictures, prompt
+from . import pictures, prompt, version
 from .base import CELLS
 from .errors import CoxeterError
 from .group import SIDES, CoxeterGroup
-from .program import OPTIONS, Program
+from .program import OPTIONS, find_program
+from .provenance import provenance
+
+
+class Version(argparse.Action):
+    """Says the version, which is worked out for this alone."""
+
+    def __init__(self, option_strings, dest, help=None):
+        super().__init__(option_strings, dest, nargs=0, help=help)
+
+    def __call__(self, parser, *_):
+        print("coxeter_shell", version.version())
+        parser.exit()
 
 
 def arguments():
@@ -16,6 +29,7 @@ def arguments():
     common = argparse.ArgumentParser(add_help=False)
     common.add_argument("group", help='the group: "A 3", or "matrix 3 3 2 4"')
     common.add_argument("--out", help="the file: .dot, .gv, .svg, or .png by graphviz; else DOT to standard output")
+    parser.add_argument("--version", action=Version, help="the version of the package")
     # Both take these, and what stands behind the KIND doesn't wipe out what stands before it.
     for taker, default in ((parser, None), (common, argparse.SUPPRESS)):
         taker.add_argument("--program", default=default, help="the path of the program coxeter")
@@ -28,7 +42,7 @@ def arguments():
     graph.add_argument("--side", choices=SIDES, default="left")
     cells = kinds.add_parser("cells", parents=[common], help="the cells of a finite group")
     cells.add_argument("--side", choices=list(CELLS), default="left")
-    origin = kinds.add_parser("provenance", help="where the program comes from: its checksum, its release, its logic")
+    origin = kinds.add_parser("provenance", help="where the program comes from: its checksum, its release, its logic; the status is 0 if it is one of a release")
     origin.add_argument("--program", default=argparse.SUPPRESS, help="the path of the program coxeter, or of coxcheck")
     given = parser.parse_args()
     if given.kind == "hasse" and len(given.words) > 2:
@@ -36,11 +50,19 @@ def arguments():
     return given
 
 
+def say_provenance(path):
+    """Says where a program comes from. A file of this name is it, whether it may be run or not. Gives the exit status: 0 if it is one of a
+    release, else 1."""
+    found = provenance(path if path and os.path.exists(path) else find_program(path))
+    print(found)
+    return int(found.release is None)
+
+
 def main():
     given = arguments()
     if given.kind == "provenance":
         try:
-            return print(Program(getattr(given, "program", None)).provenance())
+            sys.exit(say_provenance(getattr(given, "program", None)))
         except CoxeterError as error:
             sys.exit(f"coxeter_shell: {error}")
     options = {name: getattr(given, name) for name in OPTIONS}

@@ -7,8 +7,8 @@ import subprocess
 from typing import Optional, Union
 
 from . import parents, texts
-from .errors import CheckFailed, ProgramNotFound, UnexpectedAnswer
-from .program import check_interpreter, find_program
+from .errors import CheckFailed, ProgramNotFound, QuestionTimeout, UnexpectedAnswer
+from .program import check_interpreter, find_program, seconds
 from .tables import ElementDict
 
 # The most elements below the element of a certificate, the most letters of it, which is the greatest degree too, and the greatest coefficient.
@@ -43,11 +43,12 @@ class Verdict(collections.namedtuple("Verdict", "ok cause meaning")):
         return self.ok
 
 
-def check(text: Union[str, bytes, bytearray, memoryview], program: Optional[str] = None) -> Verdict:
+def check(text: Union[str, bytes, bytearray, memoryview], program: Optional[str] = None, timeout: Optional[float] = None) -> Verdict:
     """What the program `coxcheck` says of a certificate, which is given as a text or as bytes: a Verdict.
 
     The checker is proved, and shares no algorithm with the program that made the certificate. `program` is its path; else it is found as
-    `find_program` says. A CheckFailed is raised where it ends without a verdict, as it does for want of memory and for more than 16 MiB.
+    `find_program` says. A CheckFailed is raised where it ends without a verdict, as it does for want of memory and for more than 16 MiB, and a
+    QuestionTimeout where it has none after so many seconds.
 
     >>> certificate = CoxeterGroup("A", 2).certificate("12")
     >>> check(certificate)
@@ -55,7 +56,10 @@ def check(text: Union[str, bytes, bytearray, memoryview], program: Optional[str]
     >>> check(certificate.replace("e:1", "e:1+q"))
     Verdict(ok=False, cause=5, meaning='its polynomials are not the row of its element')
     """
-    data = bytes(text) if isinstance(text, (bytes, bytearray, memoryview)) else text.encode("utf-8", "surrogatepass")
+    if not isinstance(text, (str, bytes, bytearray, memoryview)):
+        raise TypeError(f"a certificate is a text, or bytes, and not {text!r}")
+    data = text.encode("utf-8", "surrogatepass") if isinstance(text, str) else bytes(text)
+    timeout = seconds(timeout)
     path = find_program(program, "coxcheck")
     check_interpreter(path)
     try:
@@ -64,9 +68,11 @@ def check(text: Union[str, bytes, bytearray, memoryview], program: Optional[str]
         raise ProgramNotFound(f"the program {path!r} can't be run: {error}") from error
     with process:
         try:
-            said = process.communicate(data)[0].decode("latin-1")
-        except BaseException:
+            said = process.communicate(data, timeout)[0].decode("latin-1")
+        except BaseException as error:
             process.kill()
+            if isinstance(error, subprocess.TimeoutExpired):
+                raise QuestionTimeout("a certificate", error.timeout) from None
             raise
     return verdict(process.returncode, said)
 
@@ -86,8 +92,7 @@ def verdict(status, said):
 def read_lines(spelling, matrix, lines):
     """The element, and the pairs of an element and a polynomial, of the lines of a certificate over the group with this Coxeter matrix.
     Lines of another shape are a ValueError."""
-    labels = [0 if label == math.inf else label for s, row in enumerate(matrix) for label in row[s + 1 :]]
-    if lines[:1] != [" ".join(map(str, ["cert", len(matrix), *labels]))]:
+    if lines[:1] != [head_of(matrix)]:
         raise ValueError("its first line should be `cert` and the group")
     if len(lines) < 5 or not lines[1].startswith("element ") or lines[2] != f"rows {len(lines) - 4}" or lines[-1] != "end":
         raise ValueError("it should have the lines `element`, `rows` and so many rows, and `end`")
@@ -96,6 +101,23 @@ def read_lines(spelling, matrix, lines):
     if pairs[-1][0] != element:
         raise ValueError("its last row should be that of its element")
     return element, pairs
+
+
+def text_of(group, w, row):
+    """The text of the certificate of a row, as the program writes it.
+
+    >>> W = CoxeterGroup("B", 3)
+    >>> text_of(W, (2, 3), W.kazhdan_lusztig_basis("23")) == W.certificate("23")
+    True
+    """
+    pairs = [f"{group.text(x)}:{p}" for x, p in row.items()]
+    return "".join(f"{line}\n" for line in [head_of(group._matrix), f"element {group.text(w)}", f"rows {len(pairs)}", *pairs, "end"])
+
+
+def head_of(matrix):
+    """The first line of the certificates of a group."""
+    labels = [0 if label == math.inf else label for s, row in enumerate(matrix) for label in row[s + 1 :]]
+    return " ".join(map(str, ["cert", len(matrix), *labels]))
 
 
 def row(group, w, lines):

@@ -8,6 +8,7 @@ from typing import Any, Dict, Iterable, Iterator, List, Optional, Tuple
 
 from . import kinds
 from .base import Base, Element, Letters, Word
+from .errors import Refusal
 from .program import MOST_OF_CONTEXT, MOST_OF_WORD
 
 
@@ -165,10 +166,10 @@ class Elements(Base):
 
     def _letters_of(self, letters):
         """A set of letters, given as a word is."""
-        found = set(self._spelling.element(letters or "e") if isinstance(letters, str) else letters)
-        if not found <= set(self._letters):
-            raise ValueError(f"{letters!r} has a letter that the group doesn't have")
-        return found
+        try:
+            return set(self._spelling.element(letters or "e") if isinstance(letters, str) else self._spelling.whole_letters(letters))
+        except Refusal:
+            raise ValueError(f"{letters!r} has a letter that the group doesn't have") from None
 
     # ---- elements
 

@@ -164,6 +164,19 @@ class UnexpectedResult(CoxeterError):
         return f"a worker gave something else than the results of {self.count} questions: {shown(self.result)}"
 
 
+class ExecutorFailed(CoxeterError):
+    """An executor failed by itself, and gave its own error in the place of a result. `killed` is whether that tells of a worker that was killed, so
+    that the question may be asked again."""
+
+    def __init__(self, why: str, killed: bool) -> None:
+        super().__init__(why, killed)
+        self.why = why
+        self.killed = killed
+
+    def __str__(self):
+        return f"the executor failed: {self.why}"
+
+
 class Unanswered(CoxeterError):
     """Questions of a table that were given up, since a worker or its program was killed each time. All others are answered.
 

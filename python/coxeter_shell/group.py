@@ -52,7 +52,7 @@ class CoxeterGroup(
 
     `program` is the path of the program; `workers`, `context`, `roots` and `coef` are options of the program. `progress=False`
     turns off the lines that tell how long an answer is awaited and how far a list was read. `timeout` is how many seconds the
-    program has for the answer to a question; behind it a `QuestionTimeout` is raised. A type or a matrix that the program doesn't
+    program has for the whole answer to a question; behind it a `QuestionTimeout` is raised. A type or a matrix that the program doesn't
     take is refused here. Groups are equal where their Coxeter matrices are.
 
     A word is a text as the program reads it ("2132", "10.9.10", "e"), a list or tuple of ints, or an element of such a group
@@ -129,7 +129,8 @@ class CoxeterGroup(
 
     @property
     def timeout(self):
-        """How many seconds the program has for the answer to a question; None is no limit. Of an iterator it is the time for the first item.
+        """How many seconds the program has for the whole answer to a question; None is no limit. Of an iterator those seconds count in which an
+        item is awaited.
 
         >>> W = CoxeterGroup("A", 3, timeout=60)
         >>> W.timeout = 2.5
@@ -163,7 +164,10 @@ class CoxeterGroup(
         >>> CoxeterGroup("A", 3).text([2, 1, 3, 2]), CoxeterGroup("A", 10).text([10, 9]), CoxeterGroup("A", 3).text([])
         ('2132', '10.9', 'e')
         """
-        return self._spelling.write(self._of_sage(word) if hasattr(word, "reduced_word") else word)
+        try:
+            return self._spelling.write(self._of_sage(word) if hasattr(word, "reduced_word") else word)
+        except Refusal as refusal:
+            raise self._shown(refusal)
 
     def set_text(self, letters: Sequence[int]) -> str:
         """A set of letters as the program writes it.
@@ -416,7 +420,7 @@ class CoxeterGroup(
         >>> CoxeterGroup("A", 2).left_cells()
         [[()], [(1,), (2, 1)], [(2,), (1, 2)], [(1, 2, 1)]]
         """
-        return Cells(self, self.iter_left_cells())
+        return self._cells_of("lcells")
 
     def iter_left_cells(self) -> Iterator[List[Element]]:
         """The left cells.
@@ -432,7 +436,7 @@ class CoxeterGroup(
         >>> CoxeterGroup("A", 2).right_cells()
         [[()], [(1,), (1, 2)], [(2,), (2, 1)], [(1, 2, 1)]]
         """
-        return Cells(self, self.iter_right_cells())
+        return self._cells_of("rcells")
 
     def iter_right_cells(self) -> Iterator[List[Element]]:
         """The right cells.
@@ -448,7 +452,7 @@ class CoxeterGroup(
         >>> CoxeterGroup("A", 2).two_sided_cells()
         [[()], [(1,), (2,), (1, 2), (2, 1)], [(1, 2, 1)]]
         """
-        return Cells(self, self.iter_two_sided_cells())
+        return self._cells_of("lrcells")
 
     def iter_two_sided_cells(self) -> Iterator[List[Element]]:
         """The two-sided cells.
@@ -457,6 +461,13 @@ class CoxeterGroup(
         [()]
         """
         return self._list(self._read_cell, "lrcells")
+
+    def _cells_of(self, line):
+        """The whole list of the cells that a command answers."""
+        try:
+            return self._read(lambda items: Cells(self, self._rising(map(self._read_cell, items))), line, self._item_texts(line))
+        except CoxeterError as error:
+            raise self._shown(error)
 
     def cell_module(self, w: Word) -> CellModule:
         """The module of the left cell of w, in a finite group: its elements, and how the Hecke algebra acts on it.
@@ -493,7 +504,11 @@ class CoxeterGroup(
     # ---- questions and the shapes of answers
 
     def _line(self, command, words):
-        return " ".join([command, *map(self.text, words)])
+        try:
+            return " ".join([command, *map(self.text, words)])
+        except Refusal as refusal:
+            # The word is shown as it was given, for there is no line that the program could refuse.
+            raise self._shown(Refusal(refusal.number, f"{command} {refusal.line}"))
 
     # An error is raised anew in the methods that follow, without the frames below: so what is shown are the frames of the user, the
     # method that was called, and one of these.
@@ -553,10 +568,16 @@ class CoxeterGroup(
 
     def _known(self, read, items):
         """Elements, or pairs of an element and something, from their texts."""
-        elements = read == self._spelling.element
-        known = self._spelling.elements if elements else self._spelling.pairs
-        items = list(map(known.__getitem__, items))
-        texts.check_rising(items if elements else [it[0] for it in items])
+        if read is not self._spelling.element:
+            return self._rising(map(read, items))
+        items = list(map(read, items))
+        texts.check_rising(items)
+        return items
+
+    def _rising(self, items):
+        """The list of items that begin with elements, which are in ShortLex order."""
+        items = list(items)
+        texts.check_rising([it[0] for it in items])
         return items
 
     def _shown(self, error):
@@ -614,34 +635,64 @@ class Items:
     """
 
     def __init__(self, group, read, line):
-        self._group, self._item, self._line = group, read, line
+        self._group, self._read, self._line = group, read, line
         self._lines = group.program.stream(line)
-        first = next(self._lines, "")
-        self.total = group._read(texts.number, line, first)
-        self._taken = 0
-        self._last = None
+        self.total = group._read(texts.number, line, next(self._lines, ""))
+        self._count = 0  # so many were read
+        self._ready = collections.deque()  # those of them that were not taken
+        self._last = None  # the element of the last of them
+        self._wrong = None  # the text behind them, if that is wrong, and why
 
     def __iter__(self):
         return self
 
     def __next__(self):
-        text = next(self._lines, None)
-        self._taken += text is not None
-        if self._taken > self.total or (text is None and self._taken < self.total):
-            self._group.program.unexpected(self._line, text, f"the list should have {self.total} items")
-        if text is None:
+        if not self._ready:
+            self._more()
+        elif self._lines.lost:
+            raise self._lines.closed()
+        return self._ready.popleft()
+
+    def _more(self):
+        """Reads some items. What is wrong is raised behind those before it, and a StopIteration at the end."""
+        if self._wrong is None:
+            self._take(self._lines.some())
+        if not self._ready:
+            if self._wrong is not None:
+                self._group.program.unexpected(self._line, *self._wrong)
             raise StopIteration
-        if self._item is None:
-            return text
-        item = self._group._read(self._item, self._line, text)
-        element = item if self._item == self._group._spelling.element else item[0]
-        if self._last is not None and not texts.before(self._last, element):
-            self._group.program.unexpected(self._line, text, "the list should be in ShortLex order")
-        self._last = element
-        return item
+
+    def _take(self, some):
+        """Reads the items of some texts, up to one that is wrong. No text is the end."""
+        room = self.total - self._count
+        if len(some) > room or room > 0 and not some:
+            self._wrong = some[room] if some else None, f"the list should have {self.total} items"
+        some = some[:room]
+        try:
+            items = self._items(some)
+        except ValueError:
+            items = []
+            for text in some:
+                try:
+                    items += self._items([text])
+                except ValueError as error:
+                    self._wrong = text, str(error)
+                    break
+        self._count += len(items)
+        self._ready.extend(items)
+
+    def _items(self, some):
+        """The items of some texts."""
+        if self._read is None or not some:
+            return some
+        items = list(map(self._read, some))
+        elements = items if self._read is self._group._spelling.element else [it[0] for it in items]
+        texts.check_rising(elements if self._last is None else [self._last, *elements])
+        self._last = elements[-1]
+        return items
 
     def __length_hint__(self):
-        return self.total - self._taken
+        return self.total - self._count + len(self._ready)
 
 
 def again(line, nodes, program, progress, options, cartan=None, timeout=None):

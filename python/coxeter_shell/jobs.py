@@ -9,19 +9,31 @@ from typing import Any, Iterable, Iterator, List
 from . import progress, texts
 from .base import Base
 from .errors import JobRefusal, Refusal
-from .program import MOST_OF_BLOCKS, MOST_OF_JOBS, PARTS, check_characters
+from .polynomial import Polynomial
+from .program import MOST_OF_BLOCKS, MOST_OF_JOBS, check_job
 
 # So many lines of blocks fit into a list, since each has a mark behind it.
 MOST_OF_LINES = MOST_OF_JOBS // 2
 
-# Methods of one word: the command, and what reads the line of its answer, or None where that is a list of elements.
-ONE_WORD = {
-    "coatoms": ("coatoms", None),
-    "normal_form": ("compute", lambda group: group._spelling.element),
-    "length": ("length", lambda group: texts.number),
-    "inverse": ("inverse", lambda group: group._spelling.element),
-    "descents": ("descent", lambda group: group._read_descents),
-    "betti_numbers": ("betti", lambda group: texts.numbers),
+Short = collections.namedtuple("Short", "command words read")
+Short.__doc__ = """What a method with a short answer asks: the command, its number of words, and what gives for a group the function that reads the
+line of its answer, or None where that is a list of elements."""
+
+SHORT = {
+    "coatoms": Short("coatoms", 1, None),
+    "normal_form": Short("compute", 1, lambda group: group._spelling.element),
+    "length": Short("length", 1, lambda group: texts.number),
+    "inverse": Short("inverse", 1, lambda group: group._spelling.element),
+    "descents": Short("descent", 1, lambda group: group._read_descents),
+    "left_descents": Short("descent", 1, lambda group: lambda text: group._read_descents(text)[0]),
+    "right_descents": Short("descent", 1, lambda group: lambda text: group._read_descents(text)[1]),
+    "betti_numbers": Short("betti", 1, lambda group: texts.numbers),
+    "intersection_betti_numbers": Short("ihbetti", 1, lambda group: texts.numbers),
+    "bruhat_le": Short("inorder", 2, lambda group: texts.truth),
+    "r_polynomial": Short("rpol", 2, lambda group: Polynomial.read),
+    "kazhdan_lusztig_polynomial": Short("pol", 2, lambda group: Polynomial.read),
+    "inverse_kazhdan_lusztig_polynomial": Short("invpol", 2, lambda group: Polynomial.read),
+    "mu_coefficient": Short("mu", 2, lambda group: texts.whole_number),
 }
 
 Job = collections.namedtuple("Job", "block index line")
@@ -72,17 +84,43 @@ class Jobs(Base):
         words = list(words)
         if len(words) < 2:
             return [getattr(self, method)(word) for word in words]
-        command, read = ONE_WORD[method]
-        return self._answers_to(read and read(self), [self._line(command, (word,)) for word in words])
+        short = SHORT[method]
+        return self._answers_to(short.read and short.read(self), [self._line(short.command, (word,)) for word in words])
 
     def _answers_to(self, read, lines):
         """The list of the answers to many lines, asked as lists of jobs. `read` reads the line of an answer, and is None where it is a list
         of elements."""
+        return list(self._iter_answers_to(read, lines))
+
+    def _iter_answers_to(self, read, lines):
+        """The same, as an iterator. What is refused is raised behind the answers before it."""
         # The blocks of a list are answered side by side where there are workers for them.
         size = MOST_OF_LINES // MOST_OF_BLOCKS if self.program.options.get("workers", 1) > 1 else MOST_OF_LINES
         self._watch()
         found = self._job_answers([lines[at : at + size] for at in range(0, len(lines), size)])
-        return [self._one_of(read, line, it) for line, it in zip(lines, itertools.chain.from_iterable(found))]
+        return (self._one_of(read, line, it) for line, it in zip(lines, itertools.chain.from_iterable(found)))
+
+    def _mapped(self, method, items):
+        """The answers of a method that is in SHORT, for items that have its words each, as an iterator: asked as lists of jobs, small ones first, so
+        that the first answers come soon. What is wrong is raised behind the answers before it."""
+        short, items, size = SHORT[method], iter(items), 1
+        read, wrong = short.read and short.read(self), None
+        some = list(itertools.islice(items, size))
+        while some and wrong is None:
+            lines = []
+            for words in some:
+                try:
+                    line = self._line(short.command, words)
+                    check_job(line)
+                except Exception as error:
+                    wrong = error
+                    break
+                lines.append(line)
+            yield from self._iter_answers_to(read, lines)
+            size = min(4 * size, MOST_OF_LINES)
+            some = list(itertools.islice(items, size))
+        if wrong is not None:
+            raise wrong
 
     def _normal_forms(self, words):
         """The elements of many words."""
@@ -122,13 +160,12 @@ class Jobs(Base):
 
 def read_block(number, block):
     """The lines of a block. In the place of one that may not be sent stands its refusal."""
-    if isinstance(block, str):
-        raise TypeError("a block is a list of lines, and no text")
+    if isinstance(block, (str, bytes)) or not hasattr(block, "__iter__"):
+        raise TypeError(f"a block is a list of lines, and not {block!r}")
     lines = []
     for index, line in enumerate(block):
         try:
-            if check_characters(line) in PARTS:
-                raise ValueError(f"{line!r} parts the blocks of a list, and is no line of one")
+            check_job(line)
         except Refusal as refusal:
             line = JobRefusal(refusal.number, line, number, index)
         lines.append(line)

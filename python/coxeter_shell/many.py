@@ -1,6 +1,7 @@
 """Many questions at once, answered by the workers of an executor: threads, processes, or other machines."""
 from __future__ import annotations
 
+import collections
 import concurrent.futures
 import contextlib
 import copy
@@ -9,6 +10,7 @@ import json
 import operator
 import pickle
 import queue
+import re
 import threading
 import uuid
 import warnings
@@ -16,9 +18,12 @@ from typing import Any, Iterable, Iterator, Optional
 
 from . import certificates
 from .base import Base, Word
-from .errors import CoxeterError, ProgramEnded, Refusal, Unanswered, UnexpectedResult
-from .rowfile import RowFile
-from .tables import RowTable, Table
+from .errors import CoxeterError, ExecutorFailed, ProgramEnded, ProgramNotFound, Refusal, Unanswered, UnexpectedResult
+from .jobs import SHORT
+from .program import find_program
+from .provenance import provenance
+from .rowfile import Origin, RowFile, may_be_row
+from .tables import ElementDict, KazhdanLusztigTable, Table
 
 # So often a question is asked where a worker or its program is killed.
 TRIES = 3
@@ -38,7 +43,8 @@ class Many(Base):
     """
 
     def map(self, method: str, *arguments: Iterable[Any], executor: Any = None, chunksize: int = 1) -> Iterator[Any]:
-        """The results of a method for many arguments, in their order, as an iterator. Without an executor they are asked for here.
+        """The results of a method for many arguments, in their order, as an iterator. Without an executor they are asked for here, and those of
+        methods with short answers as lists of jobs, many at once, unless there is a `timeout`, which is for each.
 
         The longest words are asked for first, so many questions at a time as `chunksize` says. Where a worker or its program is killed,
         the question is asked again. A worker that gives something else than the results is an UnexpectedResult.
@@ -57,6 +63,10 @@ class Many(Base):
                 raise TypeError(f"the arguments are lists, with one for each question, and {it!r} is one text: write [{it!r}]")
         items = list(zip(*arguments))
         if executor is None:
+            short = SHORT.get(method)
+            # A list of jobs has one limit of time. So where there is a limit, each question is asked by itself.
+            if short is not None and self.timeout is None and len(arguments) == short.words:
+                return self._mapped(method, items)
             return (getattr(self, method)(*item) for item in items)
         return Asked(executor, Results(self, method), items, chunksize).in_order()
 
@@ -69,22 +79,25 @@ class Many(Base):
         certified: bool = False,
         checker: Optional[str] = None,
         path: Any = None,
-    ) -> RowTable:
+    ) -> KazhdanLusztigTable:
         """A dictionary from each w to its row, which is a dictionary from each x <= w to P(x, w). `words` is the list of the w; without it
         they are all elements of a finite group.
 
         With `path` each row is written into this file as soon as it has come, as lines `w,x,polynomial` below two lines, one with the group
         (`# type A 3`) and one with these names. Where the file has rows already, they are read and not asked for again: so a table that was
-        stopped goes on from there. A file of another group, or of something else, is refused and left as it is.
+        stopped goes on from there. A file of another group, or of something else, is refused and left as it is. Each row of the file has to have
+        as many lines as there are elements below its own, and polynomials that may be in it; one that hasn't is asked for anew, and a
+        RuntimeWarning says so. Before rows stands a line with the sha256 of the program that made them, and that of the checker, if it was asked.
 
         A chunk of questions whose worker or program is killed three times is given up; when all others are answered, an Unanswered says
-        which words it had. So are other errors raised at the end.
+        which words it had. So are other errors raised at the end. A ProcessPoolExecutor breaks where a worker of it is killed: another one like
+        it takes its place.
 
         With `certified` each row comes as a certificate, and the program `coxcheck` here has to say yes before it is used. So the workers
         and their programs need not be trusted with the mathematics. Each chunk of certificates comes as bytes, and nothing that a worker
         sends has to be unpickled: threads pickle nothing, and dask unpickles nothing for a client with `deserializers=["dask", "msgpack"]`.
-        Other executors of processes unpickle what their workers send, also here. `checker` is the path of `coxcheck`. Rows that are read from
-        the file were checked before they were written.
+        Other executors of processes unpickle what their workers send, also here. `checker` is the path of `coxcheck`. It is asked about the
+        rows that are read from the file as well.
 
         >>> W = CoxeterGroup("A", 3)
         >>> table = W.kazhdan_lusztig_table(["2132", "12321"])
@@ -97,51 +110,101 @@ class Many(Base):
             raise ValueError("the group has infinitely many rows: say which")
         chunksize = whole_chunks(chunksize)
         elements = list(self.elements() if words is None else dict.fromkeys(self._normal_forms(words)))
+        maker = Maker(self, executor, chunksize, certified, checker)
         if path is None:
-            return self._table(elements, {}, None, executor, chunksize, certified, checker)
+            return maker.table(elements, {}, None)
         with RowFile(self, path) as file:
-            return self._table(elements, file.read(elements), file, executor, chunksize, certified, checker)
+            return maker.table(elements, file.read(elements, maker.says_yes if certified else None), file)
 
-    def _table(self, elements, rows, file, executor, chunksize, certified, checker):
-        """The table of these elements, of which some rows are there. The others are asked for, and written into the file as they come."""
-        items = [(w,) for w in elements if w not in rows]
-        what = Certificates(self) if certified else Results(self, "kazhdan_lusztig_basis")
-        asked = here(what, items) if executor is None else Asked(executor, what, items, chunksize).as_they_come()
-        lost = []
-        for some, found in asked:
-            if isinstance(found, Exception):
-                lost.append((some, found))
-                continue
-            for (w,), row in zip(some, found):
-                try:
-                    row = self._certified(w, row, checker) if certified else self._row_of(w, row)
-                except CoxeterError as error:
-                    lost.append(([(w,)], error))
-                    continue
-                if file is not None:
-                    file.write(w, row)
-                rows[w] = row
-        table = RowTable(self, ((w, rows[w]) for w in elements if w in rows))
-        for _, it in lost:
-            if not was_killed(it):
-                raise it
-        if lost:
-            raise Unanswered([w for some, _ in lost for (w,) in some], table) from lost[0][1]
-        return table
+    def _made_row(self, w):
+        """The row of an element, and the checksum of the program that made it."""
+        return self.kazhdan_lusztig_basis(w), self._checksum()
+
+    def _checksum(self):
+        """The checksum of the program, None where it can't be read."""
+        try:
+            return self.program.checksum()
+        except ProgramNotFound:
+            return None
 
     def _row_of(self, w, row):
-        """A row, if it ends by w itself, as each row does. By this a row that was cut off in a file is known."""
-        if not row or next(reversed(row)) != w:
-            self.program.unexpected(self._line("klbasis", (w,)), row, "its last row should be that of its element")
+        """A row, if it may be that of w. By this one that was cut off is known."""
+        if not isinstance(row, ElementDict) or not may_be_row(w, list(row.items())):
+            self.program.unexpected(self._line("klbasis", (w,)), row, "it should be the row of its element, which ends with P(w, w) = 1")
+        row.group = self
         return row
 
     def _certified(self, w, text, checker):
         """The row of a certificate, if that is one of this element, and the checker accepts it."""
         line = self._line("cert", (w,))
-        said = certificates.check(text, checker)
+        said = certificates.check(text, checker, self.timeout)
         if not said:
             self.program.unexpected(line, text, f"coxcheck says no: {said.meaning}")
         return self._read(lambda it: certificates.row(self, w, it), line, text.splitlines())
+
+
+class Maker:
+    """Makes the table of some rows."""
+
+    def __init__(self, group, executor, chunksize, certified, checker):
+        self.group, self.executor, self.chunksize = group, executor, chunksize
+        self.certified, self.checker = certified, checker
+        self.checksum = None  # that of the checker
+
+    def says_yes(self, w, row):
+        """Whether the checker says yes to a row of a file."""
+        return bool(certificates.check(certificates.text_of(self.group, w, row.pairs), self.checker, self.group.timeout))
+
+    def table(self, elements, rows, file):
+        """The table of these elements, of which some rows are there. The others are asked for, and written into the file as they come."""
+        lost = []
+        for w, found in self.asked([w for w in elements if w not in rows]):
+            try:
+                row, origin = self.row(w, found)
+            except CoxeterError as error:
+                lost.append((w, error))
+                continue
+            if file is not None:
+                file.write(w, row, origin)
+            rows[w] = row
+        table = KazhdanLusztigTable(self.group, ((w, rows[w]) for w in elements if w in rows))
+        for _, it in lost:
+            if not was_killed(it):
+                raise it
+        if lost:
+            raise Unanswered([w for w, _ in lost], table) from lost[0][1]
+        return table
+
+    def asked(self, elements):
+        """The pairs of an element and what was answered for it, or the error in its place."""
+        what = Certificates(self.group) if self.certified else Results(self.group, "_made_row")
+        items = [(w,) for w in elements]
+        if self.executor is None:
+            yield from zip(elements, here(what, items))
+            return
+        asked = Asked(self.executor, what, items, self.chunksize)
+        for number, found in asked.as_they_come():
+            of = [w for w, in asked.questions(number)]
+            yield from zip(of, [found] * len(of) if isinstance(found, Exception) else found)
+
+    def row(self, w, found):
+        """The row of an answer, and its origin. The error that came in its place is raised."""
+        if isinstance(found, Exception):
+            raise found
+        if self.certified:
+            row = self.group._certified(w, found, self.checker)
+            return row, Origin(self.group._checksum() if self.executor is None else None, self.checked_by())
+        if not isinstance(found, tuple) or len(found) != 2:
+            raise UnexpectedResult(found, 1)
+        row, checksum = found
+        row = self.group._row_of(w, row)
+        return row, Origin(checksum if isinstance(checksum, str) and re.fullmatch("[0-9a-f]{64}", checksum) else None, None)
+
+    def checked_by(self):
+        """The checksum of the checker."""
+        if self.checksum is None:
+            self.checksum = provenance(find_program(self.checker, "coxcheck")).sha256
+        return self.checksum
 
 
 def whole_chunks(size):
@@ -156,92 +219,117 @@ class Asked:
     """Chunks of questions that the workers of an executor answer. `what` has a function for the workers, and reads what they give."""
 
     def __init__(self, executor, what, items, chunksize):
-        self.submitting, self.what, self.items = submitting(executor), what, items
+        self.executor, self.what, self.items = executor, what, items
+        self.own = None  # the executor that is in the place of one that broke
         self.client = client_of(executor)
         order = sorted(range(len(items)), key=lambda k: -size(items[k]))
         self.chunks = [order[at : at + chunksize] for at in range(0, len(order), chunksize)]
         self.tries = [0] * len(self.chunks)
         # Dask gives a question that was asked before the answer that it had then. So each has a mark of its own.
         self.mark = uuid.uuid4().hex
-        self.futures = [None] * len(self.chunks)
-        for number in range(len(self.chunks)):
-            self.submit(number)
+        self.done = queue.SimpleQueue()  # the numbers of chunks, with the futures that are done
+        self.futures = {}  # those of chunks that are asked
+        self.waiting = collections.deque(range(len(self.chunks)))  # the chunks that are still to be asked
+        self.last = collections.deque()  # those whose last try comes at the end, one by one
+        self.fill()
+
+    def fill(self):
+        """Asks chunks while there is room. A pool of processes breaks as a whole, with all that it was asked: so it is asked no more than it has
+        workers, and what broke it twice is asked alone."""
+        room = getattr(self.executor, "_max_workers", 1) if is_pool(self.executor) else len(self.chunks)
+        while self.waiting and len(self.futures) < room:
+            self.submit(self.waiting.popleft())
+        if self.last and not self.futures:
+            self.submit(self.last.popleft())
 
     def submit(self, number):
         self.tries[number] += 1
         mark = f"{self.mark} {number} {self.tries[number]}"
-        self.futures[number] = self.submitting(self.what.work, *self.what.arguments, self.questions(number), mark)
+        words = self.what.work, *self.what.arguments, self.questions(number), mark
+        try:
+            future = submitting(self.executor)(*words)
+        except concurrent.futures.BrokenExecutor as error:
+            future = concurrent.futures.Future()
+            future.set_exception(error)
+        self.futures[number] = future
+        future.add_done_callback(lambda it: self.done.put((number, it)))
 
     def questions(self, number):
         return [self.items[k] for k in self.chunks[number]]
 
     def in_order(self):
-        """The results in the order of the arguments. Those that came with others are kept until then."""
+        """The results in the order of the arguments. Those that came with others are kept until then, and so are errors."""
         numbers = {k: number for number, chunk in enumerate(self.chunks) for k in chunk}
-        found = {}
-        try:
-            with watched(self.client):
-                for k in range(len(self.items)):
-                    number = numbers[k]
-                    while k not in found:
-                        results = self.result(number)
-                        if results is not None:
-                            found.update(zip(self.chunks[number], results))
-                    yield found.pop(k)
-        finally:
-            self.cancel()
+        found, come = {}, self.as_they_come()
+        with contextlib.closing(come):
+            for k in range(len(self.items)):
+                while numbers[k] not in found:
+                    number, results = next(come)
+                    found[number] = results if isinstance(results, Exception) else dict(zip(self.chunks[number], results))
+                results = found[numbers[k]]
+                if isinstance(results, Exception):
+                    raise results
+                yield results.pop(k)
 
     def as_they_come(self):
-        """The pairs of the questions of a chunk and their results, or the error that came in their place."""
-        done = queue.SimpleQueue()
-        left = len(self.chunks)
+        """The pairs of the number of a chunk and its results, or the error that came in their place."""
         try:
-            for number in range(left):
-                self.tell(number, done)
             with watched(self.client):
-                while left:
-                    number = done.get()
-                    try:
-                        results = self.result(number)
-                    except Exception as error:
-                        results = error
-                    if results is None:
-                        self.tell(number, done)
-                    else:
-                        left -= 1
-                        yield self.questions(number), results
+                for _ in self.chunks:
+                    number = results = None
+                    while results is None:
+                        number, future = self.done.get()
+                        results = self.result(number, future)
+                        self.fill()
+                    yield number, results
         finally:
             self.cancel()
 
-    def tell(self, number, done):
-        """Sees to it that the number of a chunk comes into a queue when it is done."""
-        self.futures[number].add_done_callback(lambda _: done.put(number))
-
-    def result(self, number):
-        """The results of a chunk. None where its worker or program was killed, and it was asked again."""
+    def result(self, number, future):
+        """The results of a chunk, or the error in their place. None where its worker or program was killed, and it is asked again."""
+        del self.futures[number]
         try:
             try:
-                sent = self.futures[number].result()
-            except concurrent.futures.BrokenExecutor:
-                raise
+                sent = future.result()
             except (Exception, concurrent.futures.CancelledError) as error:
                 # The errors of questions come as results. So this one is the executor's own: dask has such where workers were killed.
-                raise ExecutorFailed(f"the executor failed: {type(error).__name__}: {error}") from error
-            results = self.what.read(sent, len(self.chunks[number]))
+                self.mend(error)
+                raise ExecutorFailed(f"{type(error).__name__}: {error}", tells_of_kill(error)) from error
+            return self.what.read(sent, len(self.chunks[number]))
         except Exception as error:
             if not was_killed(error) or self.tries[number] >= TRIES:
-                self.futures[number] = None
-                raise
-            self.submit(number)
-            return None
-        self.futures[number] = None
-        return results
+                return error
+        alone = self.tries[number] + 1 == TRIES and is_pool(self.executor)
+        (self.last if alone else self.waiting).append(number)
+        return None
+
+    def mend(self, error):
+        """Puts another pool of processes in the place of one that broke."""
+        if isinstance(error, concurrent.futures.BrokenExecutor) and is_pool(self.executor) and self.executor._broken:
+            if self.own is not None:
+                self.own.shutdown(wait=False)
+            it = self.executor
+            more = {"mp_context": it._mp_context, "initializer": it._initializer, "initargs": it._initargs}
+            self.executor = self.own = concurrent.futures.ProcessPoolExecutor(it._max_workers, **more)
 
     def cancel(self):
         """Sees to it that what is still to be asked is not."""
-        for future in self.futures:
-            if future is not None:
-                future.cancel()
+        for future in self.futures.values():
+            future.cancel()
+        if self.own is not None:
+            self.own.shutdown(wait=False)
+
+
+def is_pool(executor):
+    """Whether this is a pool of processes of Python itself."""
+    return type(executor) is concurrent.futures.ProcessPoolExecutor
+
+
+def tells_of_kill(error):
+    """Whether an executor's own error tells that a worker was killed, or can't be reached: it is that of a broken pool, of a question that was taken
+    back, of a connection, or one of dask's own."""
+    kinds = (concurrent.futures.BrokenExecutor, concurrent.futures.CancelledError, OSError, EOFError)
+    return isinstance(error, kinds) or type(error).__module__.split(".")[0] == "distributed"
 
 
 def client_of(executor):
@@ -287,15 +375,11 @@ def watch(client, ended):
             warnings.warn(f"dask has had no worker for {WITHOUT_WORKERS} seconds, and waits for one without end", RuntimeWarning)
 
 
-class ExecutorFailed(CoxeterError):
-    """An executor's own error in the place of a result."""
-
-
 def was_killed(error):
     """Whether a question may be asked again after this error: its program, or its worker, was killed."""
     if isinstance(error, ProgramEnded):
         return error.status is None or error.status < 0
-    return isinstance(error, ExecutorFailed)
+    return isinstance(error, ExecutorFailed) and error.killed
 
 
 class Results:
@@ -375,17 +459,17 @@ class Certificates:
 
 
 def here(what, items):
-    """The pairs of a list with a question and of its result, or of the error that came in its place, asked for in this thread."""
+    """The results of some questions, or the errors that came in their place, asked for in this thread."""
     for item in items:
         for left in reversed(range(TRIES)):
             try:
-                found = what.here([item])
+                [found] = what.here([item])
             except CoxeterError as error:
                 found = error
                 if was_killed(error) and left:
                     continue
             break
-        yield [item], found
+        yield found
 
 
 def ask(group, method, items):

@@ -1,6 +1,7 @@
 """Modules of left cells."""
 from __future__ import annotations
 
+import operator
 from typing import Any, Dict, List
 
 from . import texts
@@ -72,7 +73,9 @@ class CellModule:
         >>> CellModule([(1,)], {1: [{(1,): InV([-1])}]}).matrix(1)
         [[-1]]
         """
-        return [[image.get(y, InV()) for image in self.images[s]] for y in self.elements]
+        if isinstance(s, bool) or not hasattr(s, "__index__") or operator.index(s) not in self.images:
+            raise ValueError(f"{s!r} is no letter: the letters are 1 to {len(self.images)}")
+        return [[image.get(y, InV()) for image in self.images[operator.index(s)]] for y in self.elements]
 
     def _gap_init_(self):
         matrices = [self.matrix(s) for s in sorted(self.images)]

@@ -160,7 +160,7 @@ class Names(Base):
             found = self._answers_of("inverse", found)
         return sorted(found, key=shortlex)
 
-    def _from(self, side, w):
+    def _from(self, side: str, w: Word) -> Element:
         """The element for the right side, or its inverse for the left one: so what is on the right of it is on the left of w."""
         if side not in ("left", "right"):
             raise ValueError(f"the side is left or right, not {side!r}")

@@ -11,7 +11,6 @@ In a list of jobs a mark stands behind each line, and is answered as it is elsew
 from __future__ import annotations
 
 import collections
-import contextlib
 import itertools
 import numbers
 import operator
@@ -20,13 +19,15 @@ import re
 import shutil
 import subprocess
 import threading
+import time
 import weakref
-from typing import Any, Iterable, List, NoReturn, Optional
+from typing import Any, Callable, Iterable, List, NoReturn, Optional
 
 from . import parents
 from .built import program_of
 from .documents import checkouts
 from .errors import ProgramClosed, ProgramEnded, ProgramNotFound, QuestionTimeout, Refusal, UnexpectedAnswer
+from .lines import Late, Lines, is_line
 from .provenance import Provenance, own_program, provenance
 
 MARK = "\t"
@@ -52,17 +53,11 @@ ROOM = len(f"jobs\nend\n{MARK}\n\n{MARK}\n")
 # The options, and what each may be.
 OPTIONS = {"workers": (1, 16), "context": (1, MOST_OF_CONTEXT), "roots": (1, 4096), "coef": (1, 2**63 - 1)}
 
-# So many bytes a pipe of Linux holds: they are read at once.
-PIPE_SIZE = 65536
+# The characters that may not stand in a line.
+NO_CHARACTER = re.compile("[^ -~]")
 
-# So many lines are read before they are made texts.
-MOST_AT_ONCE = 4096
-
-# The bytes that a line of an answer has: printing ASCII characters and spaces.
-PRINTING = bytes(range(0x20, 0x7F))
-
-# How many seconds a process that is told to end has for it.
-PATIENCE = 2
+# The programs that there are, for the process that a fork makes.
+_programs: Any = weakref.WeakSet()
 
 
 class Program:
@@ -73,10 +68,12 @@ class Program:
     object; if it ends otherwise, the next question starts a new one with the same group. It is killed where Python ends
     without having ended it.
 
-    `timeout` is how many seconds the program has for the answer to a question, or, where the answer is read line by line, for its first
-    line; None is no limit. Behind it the program is ended, and a QuestionTimeout raised.
+    `timeout` is how many seconds the program has for the whole answer to a question, with the start of a process where there is none; None
+    is no limit. Behind it the program is ended, and a QuestionTimeout raised. Of an answer that is read line by line those seconds count in
+    which a line is awaited.
 
-    `watch`, if it is set, is called with a question and the pipe that its answer comes from, before the first line is read.
+    `watch`, if it is set, is called before the first line of an answer is read: with the question, and with a function that waits for so many
+    seconds, and says whether something has come by then.
 
     >>> with Program(group="type A 3") as program:
     ...     program.ask("coatoms 121")
@@ -87,38 +84,47 @@ class Program:
         self.path = path
         self.group = group
         self.options = {name: option(name, value) for name, value in options.items() if value is not None}
-        self.timeout = self._timer = None
-        self._late = False
-        self.watch = None
-        self._lock = threading.RLock()
+        self.timeout: Optional[float] = None
+        self.watch: Optional[Callable[[str, Callable[[float], bool]], Any]] = None
         self._process: Any = None
-        self._end = self._owner = None
+        self._lines: Any = None  # what comes from the process
+        self._end: Any = None
+        self._owner: Optional[int] = None
         self._sent = 0  # bytes
         self._asked = ""  # the last question
-        self._unread = None  # a weak reference to its answer, until that is read to its end
+        self._unread: Any = None  # a weak reference to its answer, until that is read to its end
         self._marks = 0  # so many are still to come then
+        self._last: Any = None  # a weak reference to the answer to the last question, which may have lines that nobody took
         # Whether the group is set, and whether it is known what comes next from the process: an interrupt may come anywhere.
         self._begun = self._sure = False
+        self._checksum: Any = None  # that of the process, with the process
+        self._renew_lock()
+        _programs.add(self)
+
+    def _renew_lock(self):
+        self._lock = threading.RLock()
 
     def ask(self, line: str) -> List[str]:
         """The lines of the answer to a line: none where `type`, `matrix` or a blank line is accepted."""
-        with self._lock, self._limited(line):
+        with self._lock:
             return self.stream(line).rest()
 
     def stream(self, line: str) -> Answer:
         """The lines of the answer to a line, as an iterator that reads them when they are needed."""
         words = check_line(line)
-        with self._lock, self._limited(line):
-            self.start()
-            answer = self._question(line)
+        with self._lock:
+            limit = Limit(line, self.timeout)
+            self._start(MOST_OF_LINE, limit)
+            answer = self._question(line, limit)
             if words and words[0] in ("type", "matrix"):
                 self._none(answer)
                 self.group = line
+            limit.rest()
             return answer
 
     def ask_list(self, blocks: Iterable[Iterable[str]]) -> List[List[List[str]]]:
         """The answers to the lines of some blocks, which are asked as a list of jobs: for each block the list of the answers to its
-        lines, each as its lines. A refusal is the one line `error N` there.
+        lines, each as its lines. A refusal is the one line `error N` there. `timeout` is for the list as a whole.
 
         There may be 16 blocks, and 500 lines in them all: the marks behind the lines are lines too. Else the list is refused by 35.
 
@@ -130,54 +136,25 @@ class Program:
         parts = []
         for block in listed:
             for line in block:
-                if check_characters(line) in PARTS:
-                    raise ValueError(f"{line!r} parts the blocks of a list, and is no line of one")
+                check_job(line)
             parts.append("".join(f"{line}\n{MARK}\n" for line in block))
         text = "jobs\n" + "next\n".join(parts) + "end"
-        with self._lock, self._limited("jobs"):
-            self.start(len(text))
+        with self._lock:
+            limit = Limit("jobs", self.timeout)
+            self._start(len(text), limit)
             # Without a group, or in a program that has no lists, each line would be answered before the next is read. So an empty
             # list is tried first, which has no answer.
-            [said] = self._exchange("jobs\nend", 1)
+            [said] = self._exchange("jobs\nend", 1, limit)
             if said:
                 number = self.refusal(said[:1], "jobs")
                 if number is None:
                     self.unexpected("jobs", said, "nothing should have come")
                 raise Refusal(number, "jobs")
-            *answers, said = self._exchange(text, sum(map(len, listed)) + 1)
+            *answers, said = self._exchange(text, sum(map(len, listed)) + 1, limit)
             if said:
                 self.unexpected("jobs", said, "the list should have as many answers as lines")
         left = iter(answers)
         return [list(itertools.islice(left, len(block))) for block in listed]
-
-    @contextlib.contextmanager
-    def _limited(self, line):
-        """For a `with` block: what is done in it is ended when the program's time is over."""
-        if self.timeout is None or self._timer is not None:
-            yield
-            return
-        self._late = False
-        self._timer = threading.Timer(self.timeout, self._end_late)
-        self._timer.daemon = True
-        self._timer.start()
-        try:
-            yield
-        except ProgramEnded as error:
-            if self._late:
-                raise QuestionTimeout(line, self.timeout) from error
-            raise
-        finally:
-            self._timer.cancel()
-            self._timer = None
-            if self._late:
-                # It may have been killed right behind its answer.
-                self._kill()
-
-    def _end_late(self):
-        """Ends the process from another thread, so that whoever waits for it gets the end of its output."""
-        self._late, process = True, self._process
-        if process is not None:
-            process.kill()
 
     def provenance(self) -> Provenance:
         """Where the program comes from: its file and the checksum of that, the release that it is, and the logic that it was proved in.
@@ -190,25 +167,41 @@ class Program:
             process = None if self._process is None or self.foreign() else self._process.pid
             return provenance(find_program(self.path), process)
 
+    def checksum(self) -> str:
+        """The sha256 of the program that answers. It is read once for each process.
+
+        >>> program = Program()
+        >>> program.checksum() == program.provenance().sha256
+        True
+        """
+        with self._lock:
+            self.start()
+            if self._checksum is None or self._checksum[0] is not self._process:
+                self._checksum = self._process, self.provenance().sha256
+            return self._checksum[1]
+
     def start(self, size: int = MOST_OF_LINE) -> None:
         """Starts the process and sets the group, unless a process is there that can take one more question of this size."""
         with self._lock:
-            if self._process is not None and (self.foreign() or not self._begun or not self._sure):
+            self._start(size, Limit(self.group or "", self.timeout))
+
+    def _start(self, size, limit):
+        if self._process is not None and (self.foreign() or not self._begun or not self._sure):
+            self.close()
+        if self._process is not None:
+            self._read_rest(limit)
+            if self._sent + size + ROOM > MOST_OF_INPUT:
                 self.close()
-            if self._process is not None:
-                self._read_rest()
-                if self._sent + size + ROOM > MOST_OF_INPUT:
+        if self._process is None:
+            self._spawn()
+            self._none(self._question("", limit))
+            if self.group is not None:
+                try:
+                    self._none(self._question(self.group, limit))
+                except Refusal:
                     self.close()
-            if self._process is None:
-                self._spawn()
-                self._none(self._question(""))
-                if self.group is not None:
-                    try:
-                        self._none(self._question(self.group))
-                    except Refusal:
-                        self.close()
-                        raise
-                self._begun = True
+                    raise
+            self._begun = True
 
     def close(self) -> None:
         """Ends the process. What was not read of an answer is lost: its iterator raises ProgramClosed."""
@@ -217,170 +210,149 @@ class Program:
                 return
             if self.foreign():
                 self._process = self._unread = None
-            elif self._unread is not None or not self._sure:
-                answer = self._unread and self._unread()
-                if answer is not None:
-                    answer.lost = "the program was ended by close()"
+                return
+            self._lose("the program was ended by close()")
+            if self._unread is not None or not self._sure:
                 self._kill()
             else:
                 self._stop()
+
+    def _lose(self, why):
+        """Sees to it that the answer to the last question can't be read any further."""
+        answer = self._last and self._last()
+        if answer is not None:
+            answer.lose(why)
+        self._last = None
 
     def foreign(self) -> bool:
         """Whether the process belongs to the Python process that this one was forked from."""
         return self._owner != os.getpid()
 
-    def __enter__(self):
+    def __enter__(self) -> Program:
         return self
 
-    def __exit__(self, *_):
+    def __exit__(self, *_: object) -> None:
         self.close()
 
     def _spawn(self):
         words = [find_program(self.path), *(f"--{name}={value}" for name, value in self.options.items())]
         check_interpreter(words[0])
-        pipes = {"stdin": subprocess.PIPE, "stdout": subprocess.PIPE, "bufsize": PIPE_SIZE}
+        # In a session of its own it is not reached by a Ctrl-C that is meant for Python.
+        pipes = {"stdin": subprocess.PIPE, "stdout": subprocess.PIPE, "bufsize": 0}
+        starting = parents.Start(words, start_new_session=True, **pipes)
         try:
-            # In a session of its own it is not reached by a Ctrl-C that is meant for Python.
-            process = parents.start(words, start_new_session=True, **pipes)
+            process = starting.process()
+            self._lines, self._owner, self._sent, self._unread, self._begun = Lines(process), os.getpid(), 0, None, False
+            self._end = weakref.finalize(self, end, process, self._owner)
+            self._process = process
         except OSError as error:
             raise ProgramNotFound(f"the program {words[0]!r} can't be run: {error}") from error
-        self._process, self._owner, self._sent, self._unread, self._begun = process, os.getpid(), 0, None, False
-        self._end = weakref.finalize(self, end, process, self._owner)
+        except BaseException:
+            self._process = None
+            starting.abandon()
+            raise
 
     def _stop(self):
         """Ends the process, and gives its exit status, or None if it had to be killed."""
-        self._process = self._unread = None
-        return self._end() if self._end is not None else None
+        process = self._process
+        self._unread = None
+        if process is None:
+            return None
+        status = end(process, self._owner)
+        self._process = None
+        if self._end is not None:
+            self._end.detach()
+        return status
 
-    def _question(self, line):
+    def _question(self, line, limit):
         """Sends a question and the mark behind it. Reads the first line of the answer, and raises it if it's a refusal."""
-        answer = Answer(self, line)
-        self._send(line, answer)
+        answer = Answer(self, line, limit)
+        self._send(line, answer, 1, limit)
         answer.begin()
         return answer
 
-    def _exchange(self, text, marks):
+    def _exchange(self, text, marks, limit):
         """Sends lines, the first of which is `jobs`, and gives what comes before each of so many marks."""
-        answer = Answer(self, "jobs")
-        self._send(text, answer, marks)
+        answer = Answer(self, "jobs", limit)
+        self._send(text, answer, marks, limit)
         found = []
         while len(found) < marks:
-            first = self.read_line(first=not found)
-            found.append([] if first is None else [first, *self.read_lines()])
+            lines = []
+            while not self.read(lines, limit, first=not (found or lines)):
+                pass
+            found.append(lines)
             if found == [[TOO_LONG]]:
                 # The list as a whole is refused, and no other mark comes.
                 self._unread = None
                 raise Refusal(35, "jobs")
         return found
 
-    def _send(self, text, answer, marks=1):
+    def _send(self, text, answer, marks, limit):
         """Sends lines and a mark behind them. What comes up to the last of so many marks is the answer."""
         data = f"{text}\n{MARK}\n".encode("ascii")
-        line = answer.line
         self._sure = False
-        self._asked = line
-        self._unread = weakref.ref(answer)
+        self._asked = answer.line
+        self._unread = self._last = weakref.ref(answer)
         self._marks = marks
         self._sent += len(data)
-        try:
-            self._process.stdin.write(data)
-            self._process.stdin.flush()
-        except OSError as error:
-            told = self._told(line)
-            if told:
-                self.unexpected(line, told, "")
-            raise ProgramEnded(line, self._stop()) from error
-        except BaseException:
-            self._kill()
-            raise
+        with Awaiting(self, limit):
+            try:
+                self._lines.send(data, limit.until)
+            except OSError:
+                told = self._told(answer.line, limit)
+                if told:
+                    self.unexpected(answer.line, told, "")
+                raise
         self._sure = True
 
-    def _told(self, line):
+    def _told(self, line, limit):
         """What a process wrote that ended before its first question: the usage line, if its options are wrong."""
         if self._begun or line:
             return ""
-        return self._process.stdout.readline().decode("latin-1").rstrip("\n")
+        try:
+            patient = time.monotonic() + parents.PATIENCE
+            return self._lines.take(MARK_ANSWER, min(patient, limit.until or patient))[0][0]
+        except (EOFError, Late, OSError):
+            return ""
 
     def _none(self, answer):
         """Sees to it that an answer has no line."""
         for line in answer:
             self.unexpected(answer.line, line, "nothing should have come")
 
-    def _read_rest(self):
+    def _read_rest(self, limit):
         """Reads what is left of the last answer: into its iterator, unless that is gone."""
         answer = self._unread and self._unread()
         if answer is not None:
-            answer.keep_rest()
+            answer.keep_rest(limit)
         while self._unread is not None:
-            self.read_line()
+            self.read([], limit)
 
-    def read_line(self, first: bool = False) -> Optional[str]:
-        """The next line of the answer to the last question, None at a mark, and at its end."""
+    def read(self, lines: Any, limit: Limit, first: bool = False) -> bool:
+        """Appends those lines to a list that have come of the answer to the last question. Where none has, one is awaited. Says whether they are
+        all, up to the next mark."""
         if self._unread is None:
-            return None
+            return True
         question, self._sure = self._asked, False
-        try:
+        with Awaiting(self, limit):
             if first and self.watch is not None:
-                self.watch(question, self._process.stdout)
-            data = self._process.stdout.readline()
-        except OSError as error:
-            raise ProgramEnded(question, self._stop()) from error
-        except BaseException:
-            self._kill()
-            raise
-        if not data.endswith(b"\n"):
-            raise ProgramEnded(question, self._stop())
-        line = data[:-1].decode("latin-1")
-        if not line or data.translate(None, PRINTING) != b"\n":
-            self._wrong_characters(line)
-        if line == MARK_ANSWER:
-            self._marks, line = self._marks - 1, None
+                self.watch(question, lambda seconds: self._lines.comes(seconds, limit.until))
+            come, marked = self._lines.take(MARK_ANSWER, limit.until)
+            lines.extend(come)
+        if marked:
+            self._marks -= 1
             if not self._marks:
                 self._unread = None
+        if self._lines.doubtful:
+            self._check_characters(lines, come)
         self._sure = True
-        return line
+        return marked
 
-    def read_lines(self) -> List[str]:
-        """The lines up to the next mark."""
-        texts: List[str] = []
-        lines: List[bytes] = []
-        end = f"{MARK_ANSWER}\n".encode()
-        if self._unread is None:
-            return texts
-        self._sure = False
-        try:
-            readline = self._process.stdout.readline
-            data = readline()
-            while data != end and data.endswith(b"\n"):
-                lines.append(data)
-                if len(lines) == MOST_AT_ONCE:
-                    texts += self._texts(lines)
-                data = readline()
-        except OSError as error:
-            raise ProgramEnded(self._asked, self._stop()) from error
-        except BaseException:
-            self._kill()
-            raise
-        if data != end:
-            raise ProgramEnded(self._asked, self._stop())
-        texts += self._texts(lines)
-        self._marks -= 1
-        if not self._marks:
-            self._unread = None
-        self._sure = True
-        return texts
-
-    def _texts(self, lines):
-        """The texts of some lines, whose list is emptied."""
-        data = b"".join(lines)
-        texts = data.decode("latin-1").split("\n")[:-1]
-        lines.clear()
-        if data.translate(None, PRINTING) != b"\n" * len(texts) or "" in texts:
-            self._wrong_characters(next(it for it in texts if not it or not it.isascii() or not it.isprintable()))
-        return texts
-
-    def _wrong_characters(self, line):
-        self.unexpected(self._asked, line, "a line should be of printing ASCII characters and spaces")
+    def _check_characters(self, lines, come):
+        """Sees to it that lines are of the right characters. A line that isn't comes alone."""
+        if len(come) == 1 and not is_line(come[0]):
+            lines.pop()
+            self.unexpected(self._asked, come[0], "a line should be of printing ASCII characters and spaces")
 
     def _kill(self):
         """Ends the process at once, in the middle of an answer."""
@@ -404,71 +376,127 @@ class Program:
         raise UnexpectedAnswer(question, answer, why if question else "this is not the program, or its options are wrong")
 
 
+class Limit:
+    """The limit of time of a question: so many seconds, None for none. `until` is when it is over, by time.monotonic(), while it runs."""
+
+    __slots__ = ("line", "seconds", "left", "until")
+
+    def __init__(self, line, seconds):
+        self.line, self.seconds, self.left = line, seconds, seconds
+        self.run()
+
+    def run(self):
+        """From now on the program is awaited."""
+        self.until = None if self.left is None else time.monotonic() + self.left
+
+    def rest(self):
+        """From now on it is not awaited, and no time is lost."""
+        if self.until is not None:
+            self.left = self.until - time.monotonic()
+
+
+class Awaiting:
+    """A `with` block in which the program is awaited. Where it ends there, or is late, or Python is interrupted, its process is ended."""
+
+    __slots__ = ("program", "limit")
+
+    def __init__(self, program, limit):
+        self.program, self.limit = program, limit
+
+    def __enter__(self):
+        return self
+
+    def __exit__(self, kind, error, _):
+        if kind is None:
+            return
+        if isinstance(error, (EOFError, OSError)):
+            raise ProgramEnded(self.program._asked, self.program._stop()) from error
+        self.program._kill()
+        if isinstance(error, Late):
+            raise QuestionTimeout(self.limit.line, self.limit.seconds) from None
+
+
 class Answer:
     """The lines of an answer, read when they are needed.
 
     When the program is asked something else before the end, the lines that are left are read and kept first.
     """
 
-    def __init__(self, program, line):
+    def __init__(self, program, line, limit):
         self.line = line
         self._program = program
         self._process = program._process
+        self._limit = limit
         self._kept = collections.deque()
         self._ended = False
-        self.lost = "the program was ended, since it failed or was interrupted"
+        self.lost = None  # why its lines can't be had, once that is so
+
+    def lose(self, why):
+        """From now on its lines can't be had, even if they have come."""
+        self.lost = why
+        if self._kept:
+            self._kept.clear()
+            self._ended = False
+
+    def closed(self):
+        """The error that says why there are no more lines."""
+        return ProgramClosed(self.line, self.lost or "the program was ended, since it failed or was interrupted")
 
     def begin(self):
         """Reads the first line, or raises the refusal."""
-        first = self._read(first=True)
-        if first is None:
-            return
-        if not first.startswith("error"):
-            self._kept.append(first)
-            return
-        more = self._read()
-        raise Refusal(self._program.refusal([first] if more is None else [first, more], self.line), self.line)
+        self._read(self._limit, first=True)
+        if self._kept and self._kept[0].startswith("error"):
+            if len(self._kept) == 1:
+                self._read(self._limit)
+            raise Refusal(self._program.refusal(list(itertools.islice(self._kept, 2)), self.line), self.line)
 
-    def _read(self, first=False):
-        """The next line from the program, None at the end."""
-        if self._ended:
-            return None
-        self._check_there()
-        line = self._program.read_line(first)
-        self._ended = line is None
-        return line
+    def _read(self, limit, first=False):
+        """Reads some lines, one at least, unless there are no more."""
+        if not self._ended:
+            if self._process is not self._program._process or self._program.foreign():
+                raise self.closed()
+            self._ended = self._program.read(self._kept, limit, first)
 
-    def _check_there(self):
-        """Sees to it that the process is there that answers."""
-        if self._program.foreign():
-            self.lost = "the program belongs to the process that this one was forked from"
-        if self._process is not self._program._process or self._program.foreign():
-            raise ProgramClosed(self.line, self.lost)
+    def _read_here(self):
+        """The same, for who wants the next line of this answer."""
+        self._limit.run()
+        self._read(self._limit)
+        self._limit.rest()
 
     def __iter__(self):
         return self
 
     def __next__(self):
         with self._program._lock:
-            line = self._kept.popleft() if self._kept else self._read()
-        if line is None:
-            raise StopIteration
-        return line
+            if not self._kept:
+                self._read_here()
+                if not self._kept:
+                    raise StopIteration
+            return self._kept.popleft()
 
-    def rest(self):
-        """The lines that are left."""
+    def some(self):
+        """The list of the lines that have come and were not taken. Where there is none, one is awaited; at the end of the answer it is empty."""
         with self._program._lock:
-            self.keep_rest()
+            if not self._kept:
+                self._read_here()
             lines = list(self._kept)
             self._kept.clear()
         return lines
 
-    def keep_rest(self):
+    def rest(self):
+        """The list of the lines that are left."""
+        with self._program._lock:
+            self._limit.run()
+            self.keep_rest(self._limit)
+            self._limit.rest()
+            lines = list(self._kept)
+            self._kept.clear()
+        return lines
+
+    def keep_rest(self, limit):
         """Reads the lines that are left, so that the program can be asked something else."""
-        if not self._ended:
-            self._check_there()
-            self._kept.extend(self._program.read_lines())
-            self._ended = True
+        while not self._ended:
+            self._read(limit)
 
 
 def option(name, value):
@@ -497,7 +525,7 @@ def seconds(value):
 
 
 def check_line(line):
-    """The parts of a line. Refuses what may not be sent."""
+    """The parts of a line that is asked alone. Refuses what may not be sent."""
     words = check_characters(line)
     if words == ["quit"]:
         raise ValueError("`quit` ends the program before it answers: use close()")
@@ -506,11 +534,21 @@ def check_line(line):
     return words
 
 
+def check_job(line):
+    """The parts of a line of a list of jobs. Refuses what may not be sent."""
+    words = check_characters(line)
+    if words in PARTS:
+        raise ValueError(f"{line!r} parts the blocks of a list, and is no line of one")
+    return words
+
+
 def check_characters(line):
     """The parts of a line. Refuses one that is too long, or has a wrong byte, by the number that the program would refuse it by."""
-    if len(line.encode("utf-8", "surrogatepass")) > MOST_OF_LINE:
+    if not isinstance(line, str):
+        raise TypeError(f"a line is a text, and not {line!r}")
+    if len(line) > MOST_OF_LINE or len(line.encode("utf-8", "surrogatepass")) > MOST_OF_LINE:
         raise Refusal(18, line)
-    if not re.fullmatch("[ -~]*", line):
+    if NO_CHARACTER.search(line):
         raise Refusal(19, line)
     return line.split()
 
@@ -527,28 +565,32 @@ def check_interpreter(path):
 
 
 def end(process, owner):
-    """Ends a process by the end of its input, or else by force. Gives its exit status, or None if it was forced."""
-    if owner != os.getpid():
-        return None
-    for pipe in (process.stdin, process.stdout):
-        try:
-            pipe.close()
-        except OSError:
-            pass
-    try:
-        return process.wait(PATIENCE)
-    except subprocess.TimeoutExpired:
-        process.kill()
-        process.wait()
-        return None
+    """Ends a process that this process of Python started. Gives its exit status, or None if it was forced."""
+    return parents.end(process) if owner == os.getpid() else None
+
+
+def forked():
+    """What is done in the process that a fork made: other threads, which may have held locks, are not there, and processes belong to the
+    one that was forked."""
+    for program in list(_programs):
+        program._renew_lock()
+        if program._process is not None:
+            program._lose("the program belongs to the process that this one was forked from")
+        program._process = program._unread = None
+
+
+os.register_at_fork(after_in_child=forked)
 
 
 def find_program(path: Optional[str] = None, name: str = "coxeter") -> str:
     """The path of the program `coxeter`, or of `coxcheck`, by its name.
 
-    It is `path`, else what the environment variable COXETER names, or COXCHECK, else the program that came with this package, else that
-    of the checkout which it lies in or was installed from (built there, or in its release/), else the command on the PATH.
+    It is `path`, which is a file where there is one of this name, and else a command on the PATH; else what the environment variable COXETER
+    names, or COXCHECK; else the program that came with this package; else that of the checkout which it lies in or was installed from (built
+    there, or in its release/); else the command on the PATH.
     """
+    if path and os.path.isfile(path) and os.access(path, os.X_OK):
+        return path if os.path.dirname(path) else os.path.join(os.curdir, path)
     named = path or os.environ.get(name.upper())
     if named:
         found = shutil.which(named)

@@ -1,6 +1,5 @@
 """How long an answer has been awaited and how far a long list has been read: on standard error, where that is a terminal or
 the output of a notebook's cell."""
-import select
 import sys
 import time
 
@@ -13,13 +12,12 @@ WAIT = 1.0
 TICK = 1.0
 
 
-def watch(question, pipe):
-    """Waits until something comes from the pipe. Meanwhile a line tells for how long."""
+def watch(question, comes):
+    """Waits until something comes. Meanwhile a line tells for how long. `comes` waits for so many seconds, and says whether it has."""
     begun, line = time.monotonic(), None
-    poll, wait = select.poll(), WAIT
-    poll.register(pipe, select.POLLIN)
+    wait = WAIT
     try:
-        while not poll.poll(1000 * wait):
+        while not comes(wait):
             line = line or Line()
             what = f"{short(question)}: computing" if question else "the program starts"
             line.write(f"{what}, {time.monotonic() - begun:.0f} s")

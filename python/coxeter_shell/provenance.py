@@ -3,11 +3,13 @@
 What shows that a program is one of a release is its checksum alone. The rest is what the file says of itself.
 """
 import collections
+import errno
 import functools
 import hashlib
 import os
 import platform
 import re
+import stat
 
 from . import elf
 from .documents import read_document
@@ -19,19 +21,22 @@ OWN = os.path.join(os.path.dirname(os.path.abspath(__file__)), "programs")
 Release = collections.namedtuple("Release", "version date commit kit coxeter coxcheck")
 
 
-class Provenance(collections.namedtuple("Provenance", "path sha256 release logic glibc")):
+class Provenance(collections.namedtuple("Provenance", "path sha256 release logic glibc script")):
     """Where a program comes from. As a text it has a line for each of these.
 
     `path` is its file and `sha256` the checksum of that. `release` is the `Release` that it is one of by this checksum, or None;
     it has `version`, `date`, `commit`, `kit`, and the checksums of the two programs. `logic` is the identity of the logic in which
     the toolchain has proved it, as the file says, and `glibc` the least version of the GNU C library that it needs, as (2, 34):
-    each None where the file says nothing.
+    each None where the file says nothing. `script` is whether the file is a script, as the launcher of a checkout is: then it is the script whose
+    checksum this is, and not a program that it starts.
     """
 
     __slots__ = ()
 
     def __str__(self):
         lines = [f"program  {self.path}", f"sha256   {self.sha256}"]
+        if self.script:
+            lines.append("script   what was hashed is this script, and not a program that it starts: give the path of that")
         if self.release is not None:
             lines.append("release  {0.version} of {0.date}, commit {0.commit}, proved by {0.kit}".format(self.release))
         else:
@@ -49,13 +54,21 @@ def provenance(path, process=None):
     running = f"/proc/{process}/exe"
     try:
         runs = process is not None and os.readlink(running) in (os.path.realpath(path), f"{os.path.realpath(path)} (deleted)")
-        with open(running if runs else path, "rb") as program:
-            data = program.read()
+        data = read_file(running if runs else path)
     except OSError as error:
         raise ProgramNotFound(f"the program {os.fspath(path)!r} can't be read: {error.strerror}") from None
     digest = hashlib.sha256(data).hexdigest()
     release = next((it for it in releases() if digest in (it.coxeter, it.coxcheck)), None)
-    return Provenance(os.path.abspath(path), digest, release, elf.logic(data), elf.glibc(data))
+    return Provenance(os.path.abspath(path), digest, release, elf.logic(data), elf.glibc(data), data.startswith(b"#!"))
+
+
+def read_file(path):
+    """The bytes of a regular file. Others, which may have no end, are an OSError."""
+    number = os.open(path, os.O_RDONLY | os.O_CLOEXEC | os.O_NONBLOCK)
+    with os.fdopen(number, "rb") as file:
+        if not stat.S_ISREG(os.fstat(number).st_mode):
+            raise OSError(errno.EINVAL, "it is no regular file")
+        return file.read()
 
 
 def releases():

@@ -5,9 +5,9 @@ import csv
 import html
 import io
 import itertools
-from typing import Any, Iterator, Optional, Tuple
+from typing import Any, Dict, Iterator, Optional, Tuple
 
-from .base import Base
+from .base import Base, Element
 
 # A table with more rows is not written out as a text: a notebook stores what its last line is.
 MOST_WRITTEN = 500
@@ -173,8 +173,11 @@ class PairDict(ElementDict):
         return self.group.normal_form(x), self.group.normal_form(w)
 
 
-class RowTable(ElementDict):
+class KazhdanLusztigTable(ElementDict):
     """The rows of some elements: a dictionary from each w to its row, which is a dictionary from each x <= w to P(x, w).
+
+    `origins` is a dictionary that has, of rows that were read from a file, where they come from: the sha256 of the program, and that of the
+    checker that said yes to them, each None where there is none.
 
     As a table it has a line for each pair.
 
@@ -186,15 +189,40 @@ class RowTable(ElementDict):
     2,2,1
     """
 
-    __slots__ = ()
+    __slots__ = ("origins",)
 
     columns = "w", "x", "polynomial"
 
     def __init__(self, group: Base, items: Any = (), value: str = "row") -> None:
         super().__init__(group, items, value)
+        self.origins: Dict[Element, Any] = {}
+
+    @classmethod
+    def read(cls, path: Any, **options: Any) -> KazhdanLusztigTable:
+        """The table in a file that `kazhdan_lusztig_table(path=path)` has written, or writes now. The file names the group, and `options` are
+        those of `CoxeterGroup` for it. `to_frame` makes a DataFrame of pandas of the table, in which elements are tuples, whatever the rank.
+
+        A row that was not written to its end is left out. A ValueError is raised for rows that are damaged, as by the want of a line, and for a
+        file that is no such table.
+
+        >>> import os, tempfile
+        >>> with tempfile.TemporaryDirectory() as folder:
+        ...     path = os.path.join(folder, "rows.csv")
+        ...     table = CoxeterGroup("A", 3).kazhdan_lusztig_table(["2132"], path=path)
+        ...     KazhdanLusztigTable.read(path) == table
+        True
+        """
+        from .group import CoxeterGroup
+        from .rowfile import read_table
+
+        return read_table(lambda line: CoxeterGroup(line, **options), path)
 
     def rows(self) -> Iterator[Tuple[Any, ...]]:
         return ((w, x, polynomial) for w, row in self.items() for x, polynomial in row.items())
+
+
+# The name that it had in version 1.0.
+RowTable = KazhdanLusztigTable
 
 
 class Cells(Plain, list):

@@ -10,6 +10,7 @@ import re
 from numbers import Integral
 from typing import Any
 
+from .errors import Refusal
 from .polynomial import Polynomial
 
 # So many elements, and pairs of an element and a polynomial, are known by their texts for each group: each text is read once, and equal
@@ -26,8 +27,12 @@ class Spelling:
     def __init__(self, rank):
         self.dot = "." if rank > 9 else ""
         self.values = {str(letter): letter for letter in range(1, rank + 1)}
+        self.texts = {letter: text for text, letter in self.values.items()}
         self.elements = Known(self._element)
         self.pairs = Known(self._pair)
+        # What reads the text of an element, and that of an element and a polynomial.
+        self.element = self.elements.__getitem__
+        self.pair = self.pairs.__getitem__
 
     def write(self, word):
         """The text of a word, which is given as a text or as letters."""
@@ -36,16 +41,29 @@ class Spelling:
             if " " in word:
                 raise ValueError(f"a word has no spaces: {word!r}")
             return word or "e"
+        if type(word) is tuple:
+            # So are elements. A letter that is no int has another text, which is looked up below.
+            found = [self.texts.get(letter) for letter in word if type(letter) is int]
+            if None not in found and len(found) == len(word):
+                return self.dot.join(found) or "e"
         if isinstance(word, (set, frozenset, dict, bytes, bytearray)):
             raise TypeError(f"{word!r} is no word: its letters have no order")
+        return self.dot.join([self.texts[letter] for letter in self.whole_letters(word)]) or "e"
+
+    def whole_letters(self, word):
+        """The letters of a list or tuple of whole numbers. One that is no letter is a Refusal, and what is no such list a TypeError."""
         try:
-            letters = [operator.index(letter) for letter in word]
+            if isinstance(word, Polynomial):
+                raise TypeError
+            given = list(word)
+            if any(isinstance(letter, bool) for letter in given):
+                raise TypeError
+            letters = list(map(operator.index, given))
         except TypeError:
             raise TypeError(f"a word is a text, or a list or tuple of whole numbers, and not {word!r}") from None
-        if not self.dot:
-            # 0 is no letter, so that the program refuses it as it refuses the others that are none.
-            letters = [letter if 1 <= letter <= 9 else 0 for letter in letters]
-        return self.dot.join(map(str, letters)) or "e"
+        if not all(letter in self.texts for letter in letters):
+            raise Refusal(16, str(letters))
+        return letters
 
     def letters(self, text):
         """The letters of a text."""
@@ -54,14 +72,6 @@ class Spelling:
             return tuple(map(self.values.__getitem__, pieces))
         except KeyError as piece:
             raise ValueError(f"{piece} is no letter of the group") from None
-
-    def element(self, text):
-        """The element of a text."""
-        return self.elements[text]
-
-    def pair(self, text):
-        """The element and the polynomial of a text."""
-        return self.pairs[text]
 
     def _pair(self, text):
         element, _, polynomial = text.partition(":")

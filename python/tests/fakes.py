@@ -87,6 +87,11 @@ class Fakes:
         marks = os.path.join(self.folder.name, f"asked {self.count} ")
         return self.python(RELAYED.format(line=line, times=times, marks=marks, program=program))
 
+    def kills_its_worker(self, line, times, program):
+        """The program, whose parent ends by a signal where it is asked this line, so many times."""
+        marks = os.path.join(self.folder.name, f"worker {self.count} ")
+        return self.python(RELAYED.format(line=line, times=times, marks=marks, program=program).replace("os.kill(os.getpid(), signal.SIGKILL)", "os.kill(os.getppid(), signal.SIGKILL); os._exit(1)"))
+
     def saying(self, *lines):
         """A stand-in that answers these lines."""
         return self.fake(f"say(*{lines!r})")

@@ -5,7 +5,8 @@ import types
 import unittest
 import unittest.mock
 
-from coxeter_shell import CellModule, CoxeterError, CoxeterGroup, InV, Polynomial, Refusal, gap, magic
+import coxeter_shell
+from coxeter_shell import CellModule, CoxeterError, CoxeterGroup, InV, Polynomial, Refusal, check, gap, magic
 
 
 class Wrong(unittest.TestCase):
@@ -46,10 +47,59 @@ class Wrong(unittest.TestCase):
                 (TypeError, "a permutation is a list", group.from_permutation, [2, 1, 3.5, 4]),
                 (ValueError, "no permutation of 1 to 4", group.from_permutation, [2, 1, 3]),
                 (ValueError, "no permutation of 1 to 4", group.from_permutation, {1, 2, 3, 4}),
+                (TypeError, "a word is a text", group.length, True),
+                (TypeError, "a word is a text", group.length, [True]),
+                (TypeError, "a word is a text", group.length, (1, True)),
+                (TypeError, "a word is a text", group.length, Polynomial([1, 2])),
+                (TypeError, "a word is a text", group.bruhat_le, "1", (2, 1.0)),
+                (TypeError, "a word is a text", group.text, [None]),
+                (TypeError, "a word is a text", group.coset_representatives, [True]),
+                (TypeError, "a word is a text", group.coset_representatives, [1.5]),
+                (ValueError, "a letter that the group doesn't have", group.coset_representatives, [4]),
+                (ValueError, "a letter that the group doesn't have", group.parabolic_decomposition, "12", (0,)),
+                (ValueError, "the letters are 1 to 3", group.cell_module("1").matrix, 4),
+                (ValueError, "the letters are 1 to 3", group.cell_module("1").matrix, [[Polynomial([1])]]),
+                (ValueError, "the letters are 1 to 3", group.cell_module("1").matrix, True),
+                (TypeError, "a word is a text", group.cell_module("1").act, [True]),
+                (TypeError, "a certificate is a text, or bytes, and not None", check, None),
+                (TypeError, "a certificate is a text, or bytes, and not 3", check, 3),
+                (TypeError, "a line is a text, and not None", group.jobs, [[None]]),
+                (TypeError, "a line is a text, and not b'length 1'", group.jobs, [[b"length 1"]]),
+                (TypeError, "a block is a list of lines, and not None", group.jobs, [None]),
+                (TypeError, "a block is a list of lines, and not 'length 1'", group.jobs, ["length 1"]),
+                (TypeError, "a line is a text, and not None", group.program.ask, None),
+                (TypeError, "a line is a text, and not 3", group.program.ask_list, [[3]]),
             ]:
                 with self.subTest(call=call.__name__, arguments=arguments):
                     self.raises(error, said, call, *arguments)
                     self.assertEqual(group.length("12"), 2)
+
+    def test_words(self):
+        """Each way to give a word, and letters that the group doesn't have, which are shown as they were given."""
+        with CoxeterGroup("A", 3) as group, CoxeterGroup("A", 10) as other:
+            for word in ("21", [2, 1], (2, 1), range(2, 0, -1), iter([2, 1]), " 21 "):
+                self.assertEqual(group.normal_form(word), (2, 1))
+            self.assertEqual((group.text([]), group.text(()), group.text(""), other.text((10, 1))), ("e", "e", "e", "10.1"))
+            for word, shown in (([-1], "[-1]"), ((12,), "[12]"), ([1, 0], "[1, 0]"), ([4], "[4]")):
+                for call, line in ((group.length, f"length {shown}"), (group.coatoms, f"coatoms {shown}"), (group.text, shown)):
+                    self.refuses(line, call, word)
+                self.refuses(f"inorder {shown}", group.bruhat_le, word, "1")
+            self.refuses("length [11]", other.length, [11])
+            self.refuses("[11]", other.text, (11,))
+
+    def refuses(self, line, call, *arguments):
+        with self.assertRaises(Refusal) as caught:
+            call(*arguments)
+        self.assertEqual((caught.exception.number, caught.exception.line), (16, line))
+        self.assertIn("the letters of CoxeterGroup", str(caught.exception))
+
+    def test_names_of_the_package(self):
+        """`from coxeter_shell import *` brings no names that are too general, which are there all the same."""
+        for name in ("check", "gap", "Table", "Release"):
+            self.assertNotIn(name, coxeter_shell.__all__)
+            self.assertTrue(hasattr(coxeter_shell, name))
+        self.assertEqual([name for name in coxeter_shell.__all__ if not hasattr(coxeter_shell, name)], [])
+        self.assertFalse(hasattr(coxeter_shell, "nothing"))
 
     def test_options(self):
         """Wrong ones are refused when the group is made."""

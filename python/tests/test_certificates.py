@@ -130,7 +130,7 @@ class Judged(unittest.TestCase):
 
     def test_what_is_no_text(self):
         for value in (None, 7, ["cert 1"]):
-            with self.assertRaises(AttributeError):
+            with self.assertRaises(TypeError):
                 check(value)
 
     def test_too_much(self):

@@ -17,6 +17,7 @@ import reference
 from coxeter_shell import (
     CoxeterError,
     CoxeterGroup,
+    ExecutorFailed,
     Polynomial,
     ProgramEnded,
     Refusal,
@@ -146,6 +147,33 @@ class Map(unittest.TestCase):
             self.assertEqual([next(found), next(found), next(found)], [2, 3, 1])
             self.assertEqual(list(group.map("length", [])), [])
 
+    def test_as_lists_of_jobs(self):
+        """Methods with short answers: each answer is that of the method, and few questions are sent."""
+        real = reference.group(3)
+        words = list(real.words.values())
+        pairs = [words * len(words), [w for w in words for _ in words]]
+        for workers in (1, 2):
+            with CoxeterGroup("A", 3, workers=workers) as group:
+                for method, short in many.SHORT.items():
+                    arguments = [words] if short.words == 1 else [it[:300] for it in pairs]
+                    right = [getattr(group, method)(*item) for item in zip(*arguments)]
+                    with unittest.mock.patch.object(group.program, "ask", side_effect=AssertionError):
+                        self.assertEqual(list(group.map(method, *arguments)), right, method)
+                with group.within(60), unittest.mock.patch.object(group.program, "ask_list", side_effect=AssertionError):
+                    self.assertEqual(list(group.map("length", ["12", "1"])), [2, 1])
+
+    def test_what_is_wrong_comes_in_its_place(self):
+        with CoxeterGroup("A", 3) as group:
+            for wrong, error in (("4", Refusal), ([4], Refusal), (None, TypeError), ("1 2", ValueError), ("1" * 5000, Refusal), ("é", Refusal)):
+                for place in range(12):
+                    found = group.map("length", ["12"] * place + [wrong, "1"])
+                    self.assertEqual([next(found) for _ in range(place)], [2] * place)
+                    with self.assertRaises(error):
+                        next(found)
+            with self.assertRaises(TypeError):
+                list(group.map("length", ["1"], ["2"]))
+            self.assertEqual(group.length("12"), 2)
+
     def test_tables_belong_to_the_group(self):
         with concurrent.futures.ProcessPoolExecutor(1) as executor, CoxeterGroup("A", 3) as group:
             for basis in group.map("kazhdan_lusztig_basis", ["2132", "2312"], executor=executor):
@@ -227,9 +255,44 @@ class Map(unittest.TestCase):
 
         group = CoxeterGroup("A", 3)
         self.assertEqual(list(group.map("length", ["1", "12"], executor=Giving(fail, times=3))), [1, 2])
-        with self.assertRaises(CoxeterError) as caught:
+        with self.assertRaises(ExecutorFailed) as caught:
             list(group.map("length", ["1", "12"], executor=Giving(fail)))
         self.assertIn("OSError: the worker was killed", str(caught.exception))
+        self.assertEqual(str(pickle.loads(pickle.dumps(caught.exception))), str(caught.exception))
+
+    def test_executors_with_errors_of_their_own(self):
+        """Such as don't tell of a worker that was killed: they are not asked again, and raised behind all others."""
+
+        def wrong(_):
+            asked.append(1)
+            raise ValueError("no such queue")
+
+        for call in (
+            lambda group, executor: list(group.map("length", ["1"], executor=executor)),
+            lambda group, executor: group.kazhdan_lusztig_table(["1"], executor=executor),
+            lambda group, executor: group.kazhdan_lusztig_table(["1"], executor=executor, certified=True),
+        ):
+            asked = []
+            with CoxeterGroup("A", 3) as group, self.assertRaises(ExecutorFailed) as caught:
+                call(group, Giving(wrong))
+            self.assertEqual((str(caught.exception), len(asked)), ("the executor failed: ValueError: no such queue", 1))
+
+    def test_a_pool_whose_worker_is_killed(self):
+        """The pool breaks with it. What it was asked is asked anew, by another pool, so that one row in three tries is given up, and no other."""
+        with CoxeterGroup("A", 3) as group:
+            right = group.kazhdan_lusztig_table()
+            for times, certified in ((2, False), (2, True), (99, False)):
+                with self.subTest(times=times, certified=certified), fakes.Fakes() as folder, concurrent.futures.ProcessPoolExecutor(2) as pool:
+                    line = "cert 2132" if certified else "klbasis 2132"
+                    deadly = CoxeterGroup("A", 3, program=folder.kills_its_worker(line, times, find_program()))
+                    if times == 2:
+                        self.assertEqual(deadly.kazhdan_lusztig_table(executor=pool, chunksize=3, certified=certified), right)
+                        continue
+                    with self.assertRaises(Unanswered) as caught:
+                        deadly.kazhdan_lusztig_table(executor=pool)
+                    self.assertEqual((caught.exception.words, len(caught.exception.table)), ([(2, 1, 3, 2)], 23))
+                    with concurrent.futures.ProcessPoolExecutor(2) as other, self.assertRaises(CoxeterError):
+                        list(deadly.map("kazhdan_lusztig_basis", ["1", "2132"], executor=other))
 
     def test_errors_that_are_not_the_program_s(self):
         """They are raised as they are, and one that can't be pickled by its text."""

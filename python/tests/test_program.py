@@ -1,10 +1,13 @@
 """The process behind a group: when it starts and ends, many questions, and programs that do something wrong."""
 import concurrent.futures
+import contextlib
 import gc
+import io
 import math
 import os
 import pickle
 import random
+import select
 import shutil
 import signal
 import subprocess
@@ -17,6 +20,7 @@ import unittest.mock
 
 import coxeter_shell
 import fakes
+import patience
 import reference
 from coxeter_shell import (
     CoxeterGroup,
@@ -28,6 +32,7 @@ from coxeter_shell import (
     QuestionTimeout,
     Refusal,
     UnexpectedAnswer,
+    check,
     parents,
 )
 
@@ -49,6 +54,12 @@ def gone(pid, seconds=60):
     while alive(pid) and time.monotonic() < end:
         time.sleep(0.01)
     return not alive(pid)
+
+
+def quiet(call, *arguments):
+    """Calls something that may end by the end of the program."""
+    with contextlib.suppress(ProgramError):
+        call(*arguments)
 
 
 def pid_of(group):
@@ -109,7 +120,7 @@ class Life(unittest.TestCase):
             next(slow.iter_left_cells())
             pid, begun = pid_of(slow), time.monotonic()
             # It is not waited for, as a program is that can end by itself.
-            with unittest.mock.patch("coxeter_shell.program.PATIENCE", 600):
+            with unittest.mock.patch("coxeter_shell.parents.PATIENCE", 600):
                 slow.close()
             self.assertFalse(alive(pid))
             self.assertLess(time.monotonic() - begun, 300)
@@ -216,6 +227,67 @@ class Life(unittest.TestCase):
         finally:
             signal.signal(signal.SIGALRM, before)
         self.assertGreater(count, 100)
+
+    def test_interrupted_while_it_starts(self):
+        """Then no process is left: neither a live one nor one that nobody waits for."""
+
+        def interrupt(*_):
+            raise KeyboardInterrupt
+
+        random.seed(6)
+        before = signal.signal(signal.SIGALRM, interrupt)
+        others, count = set(patience.children(os.getpid())), 0
+        try:
+            for number in range(60):
+                group = CoxeterGroup("A", 3)
+                try:
+                    signal.setitimer(signal.ITIMER_REAL, random.uniform(1e-4, 8e-3))
+                    group.length("12")
+                    signal.setitimer(signal.ITIMER_REAL, 0)
+                except KeyboardInterrupt:
+                    count += 1
+                if number % 2:
+                    self.assertEqual(group.length("12"), 2)
+                    group.close()
+                del group
+                gc.collect()
+                end = time.monotonic() + 60
+                while set(patience.children(os.getpid())) - others and time.monotonic() < end:
+                    time.sleep(0.001)
+                self.assertEqual(set(patience.children(os.getpid())) - others, set())
+        finally:
+            signal.setitimer(signal.ITIMER_REAL, 0)
+            signal.signal(signal.SIGALRM, before)
+        self.assertGreater(count, 20)
+
+    def test_forked_while_another_thread_asks(self):
+        """The lock of the program is held then, by a thread that is not there in the forked process."""
+        with fakes.Fakes() as folder:
+            slow = folder.fake('time.sleep(1000 if line == "length 1" else 0); say("7")')
+            with CoxeterGroup("A", 3, program=slow) as group:
+                group.length("2")
+                asks = threading.Thread(target=quiet, args=(group.length, "1"), daemon=True)
+                asks.start()
+                while group.program._asked != "length 1":
+                    time.sleep(0.001)
+                read, write = os.pipe()
+                child = os.fork()
+                if not child:
+                    try:
+                        os.write(write, str(group.length("2")).encode())
+                        group.close()
+                    finally:
+                        os._exit(0)
+                os.close(write)
+                try:
+                    self.assertTrue(select.select([read], [], [], 60)[0])
+                    self.assertEqual(os.read(read, 100), b"7")
+                finally:
+                    os.close(read)
+                    os.kill(child, signal.SIGKILL)
+                    os.waitpid(child, 0)
+                    os.kill(pid_of(group), signal.SIGKILL)
+                    asks.join()
 
     def test_forked(self):
         with CoxeterGroup("A", 3) as group:
@@ -460,7 +532,7 @@ class Late(unittest.TestCase):
                     with self.assertRaises(QuestionTimeout):
                         group.jobs([["length 1", "length 2"]])
             # A program that starts too slowly is late as well.
-            with CoxeterGroup("A", 2, program=folder.shell("sleep 60"), timeout=0.5) as group:
+            with CoxeterGroup("A", 2, program=folder.shell("exec sleep 60"), timeout=0.5) as group:
                 with self.assertRaises(QuestionTimeout):
                     group.length("1")
 
@@ -477,10 +549,111 @@ class Late(unittest.TestCase):
         self.assertEqual(same.timeout, 3)
 
     def test_an_iterator_has_time_for_its_items(self):
-        with fakes.Fakes() as folder, CoxeterGroup("A", 2, program=folder.saying("2", "e", "1"), timeout=60) as group:
-            items = group.iter_bruhat_interval("e", "1")
-            self.assertIsNone(group.program._timer)
-            self.assertEqual(list(items), [(), (1,)])
+        """The time in which no item is awaited doesn't count."""
+        with fakes.Fakes() as folder:
+            code = "say('3', 'e'); time.sleep(2); say('1', '2'); time.sleep(0 if line.endswith(' 2') else 60)"
+            with CoxeterGroup("A", 2, program=folder.fake(code), timeout=30) as group:
+                items = group.iter_bruhat_interval("e", "2")
+                self.assertEqual(next(items), ())
+                items._lines._limit.left = 20
+                time.sleep(3)
+                self.assertEqual(list(items), [(1,), (2,)])
+                # The end of the list is awaited too, and it is one limit for all items.
+                items = group.iter_bruhat_interval("e", "1")
+                self.assertEqual([next(items) for _ in range(3)], [(), (1,), (2,)])
+                items._lines._limit.left, begun = 0.5, time.monotonic()
+                with self.assertRaises(QuestionTimeout):
+                    next(items)
+                self.assertLess(time.monotonic() - begun, 30)
+
+    def test_the_whole_answer(self):
+        """A program that stalls behind its first lines is late, whatever asked it."""
+        cells = {"": ["lcells", "rcells", "lrcells"], "e - 1:1": ["lwgraph", "rwgraph"]}
+        answers = {line: ("4", item or "e") for item, lines in cells.items() for line in lines}
+        answers.update({"cert 1": ("cert 2 3", "element 1"), "module 1": ("2",), "klbasis 1": ("2", "e:1"), "extremals 1": ("2", "e:1")})
+        calls = [
+            lambda it: it.left_cells(),
+            lambda it: it.right_cells(),
+            lambda it: it.two_sided_cells(),
+            lambda it: list(it.iter_left_cells()),
+            lambda it: it.W_graph(),
+            lambda it: list(it.iter_W_graph("right")),
+            lambda it: it.cell_order(),
+            lambda it: it.left_cell("1"),
+            lambda it: it.a_value("1"),
+            lambda it: it.duflo_involutions(),
+            lambda it: it.mu_table(),
+            lambda it: it.certificate("1"),
+            lambda it: it.cell_module("1"),
+            lambda it: it.kazhdan_lusztig_basis("1"),
+            lambda it: list(it.iter_kazhdan_lusztig_basis("1")),
+            lambda it: it.extremal_pairs("1"),
+            lambda it: it.singular_locus("1"),
+            lambda it: it.kazhdan_lusztig_table(["1"]),
+        ]
+        code = f"if line.startswith('compute'): say(line[8:])\nelse: say(*{answers!r}[line]); time.sleep(1000)"
+        with fakes.Fakes() as folder:
+            stalls = folder.fake(code)
+            for number, call in enumerate(calls):
+                for told in (False, True):
+                    with self.subTest(number), CoxeterGroup("A", 2, program=stalls, timeout=0.3, progress=told) as group:
+                        begun = time.monotonic()
+                        with self.assertRaises(QuestionTimeout), contextlib.redirect_stderr(io.StringIO()):
+                            call(group)
+                        self.assertLess(time.monotonic() - begun, 30)
+                        self.assertIsNone(group.program._process)
+
+    def test_what_is_not_read(self):
+        """A program that reads no further is late as well, when more is sent than the pipe holds."""
+        stops = "import sys, time\nfor line in iter(sys.stdin.readline, ''):\n"
+        stops += "    if line == chr(9) + chr(10): sys.stdout.write('error 19\\n'); sys.stdout.flush()\n"
+        stops += "    elif line.startswith('length'): time.sleep(1000)\n"
+        with fakes.Fakes() as folder, CoxeterGroup("A", 2, program=folder.python(stops), timeout=0.5) as group:
+            begun = time.monotonic()
+            with self.assertRaises(QuestionTimeout):
+                group.jobs([["length 1" + " " * 4000] * 400])
+            self.assertLess(time.monotonic() - begun, 30)
+
+    def test_that_is_late_while_it_starts(self):
+        """The limit ends before there is a process."""
+        popen = subprocess.Popen
+
+        def slow(*words, **more):
+            time.sleep(0.5)
+            return popen(*words, **more)
+
+        with fakes.Fakes() as folder, unittest.mock.patch.object(parents.subprocess, "Popen", slow):
+            with CoxeterGroup("A", 2, program=folder.fake("time.sleep(1000)"), timeout=0.2) as group:
+                begun = time.monotonic()
+                with self.assertRaises(QuestionTimeout) as caught:
+                    group.length("1")
+                self.assertLess(time.monotonic() - begun, 30)
+                self.assertEqual(caught.exception.line, "length 1")
+
+    def test_just_in_time_or_late(self):
+        """Whatever comes first, the answer or the end of the time: there is the answer or a QuestionTimeout."""
+        random.seed(8)
+        late = 0
+        with CoxeterGroup("A", 4) as group:
+            group.length("1")
+            for _ in range(400):
+                with group.within(random.uniform(1e-5, 1e-3)):
+                    try:
+                        self.assertEqual(len(group.bruhat_interval("e", "1234321")), 68)
+                        self.assertEqual(sum(1 for _ in group.iter_kazhdan_lusztig_basis("1234321")), 68)
+                        self.assertEqual(group.jobs([["length 1"] * 20]), [[["1"]] * 20])
+                    except QuestionTimeout:
+                        late += 1
+                self.assertEqual(group.length("123"), 3)
+        self.assertGreater(late, 10)
+
+    def test_a_checker_that_stalls(self):
+        with fakes.Fakes() as folder, CoxeterGroup("A", 2) as group:
+            stalls = folder.shell("exec sleep 1000")
+            with self.assertRaises(QuestionTimeout):
+                check(group.certificate("1"), stalls, timeout=0.3)
+            with group.within(0.5), self.assertRaises(QuestionTimeout):
+                group.kazhdan_lusztig_table(["1"], certified=True, checker=stalls)
 
     def test_what_is_no_limit(self):
         wrong = [(it, ValueError) for it in (0, -1, math.nan, math.inf)] + [(it, TypeError) for it in ("1", True)]
@@ -548,7 +721,7 @@ class Wrong(unittest.TestCase):
             self.assertEqual(group.length("123232323"), 1)
             self.assertNotEqual(pid_of(group), pid)
 
-    @unittest.mock.patch("coxeter_shell.program.PATIENCE", 0.2)
+    @unittest.mock.patch("coxeter_shell.parents.PATIENCE", 0.2)
     def test_pipes_that_close(self):
         error = self.fails(ProgramEnded, self.folder.fake('os.close(1); time.sleep(100)'))
         self.assertIsNone(error.status)

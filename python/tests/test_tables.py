@@ -9,10 +9,21 @@ import sys
 import tempfile
 import unittest
 import unittest.mock
+import warnings
 
 import fakes
 import reference
-from coxeter_shell import CoxeterGroup, Polynomial, RowTable, Unanswered, find_program
+from coxeter_shell import (
+    CheckFailed,
+    CoxeterGroup,
+    KazhdanLusztigTable,
+    Polynomial,
+    Program,
+    Unanswered,
+    UnexpectedAnswer,
+    find_program,
+    provenance,
+)
 
 # Makes a table in a file, and kills itself after so many rows were written.
 STOPPED = """
@@ -51,7 +62,7 @@ class Csv(unittest.TestCase):
     def test_a_line_for_each_pair(self):
         with CoxeterGroup("A", 3) as group:
             table = group.kazhdan_lusztig_table()
-            self.assertIsInstance(table, RowTable)
+            self.assertIsInstance(table, KazhdanLusztigTable)
             self.assertEqual(table.to_csv().splitlines(), lines_of(3))
             rows = list(csv.reader(io.StringIO(table.to_csv())))
             self.assertEqual({len(row) for row in rows}, {3})
@@ -68,7 +79,7 @@ class Csv(unittest.TestCase):
             self.assertIn("<tr><td>12</td><td>e</td><td>1</td></tr>", text)
             self.assertNotIn("{", text)
             again = pickle.loads(pickle.dumps(table))
-            self.assertEqual((again, type(again), again.to_csv()), (table, RowTable, table.to_csv()))
+            self.assertEqual((again, type(again), again.to_csv()), (table, KazhdanLusztigTable, table.to_csv()))
 
 
 class Files(unittest.TestCase):
@@ -82,10 +93,10 @@ class Files(unittest.TestCase):
             return made.read()
 
     def lines(self):
-        """The lines below the first, which names the group."""
+        """The lines below the first, which names the group, without those that say where rows come from."""
         first, *others = self.text().splitlines()
         self.assertEqual(first, "# type A 3")
-        return sorted(others)
+        return sorted(it for it in others if not it.startswith("# program "))
 
     def write(self, text):
         with open(self.path, "w", encoding="ascii") as out:
@@ -125,7 +136,8 @@ class Files(unittest.TestCase):
             self.write(whole[:size])
             with CoxeterGroup("A", 1) as group:
                 group.kazhdan_lusztig_table(path=self.path)
-            self.assertEqual(self.text(), "# type A 1\nw,x,polynomial\ne,e,1\n1,e,1\n1,1,1\n")
+            made_by = f"# program {Program().provenance().sha256}, not checked\n"
+            self.assertEqual(self.text(), f"# type A 1\nw,x,polynomial\n{made_by}e,e,1\n1,e,1\n1,1,1\n")
 
     def test_rows_come_when_they_are_answered(self):
         """Each row is in the file when the next is asked for, whatever executor asks."""
@@ -145,7 +157,7 @@ class Files(unittest.TestCase):
 
         def write(file, w, row):
             real(file, w, row)
-            lines = self.text().splitlines()[2:]
+            lines = [it for it in self.text().splitlines()[2:] if it[0] != "#"]
             seen.append(sum(line.split(",")[0] == line.split(",")[1] for line in lines))
 
         return write
@@ -159,7 +171,6 @@ class Files(unittest.TestCase):
                 ("# notes\n", "line 1"),
                 ("# type A 2\n1,e,1\n", "line 2"),
                 (head + "1,e\n", "line 3"),
-                (head + "1,e,1\n2,e,1\n", "line 4: it stands amid another row"),
                 (head + "e,e,1\ne,e,1\n", "line 4: its row is there twice"),
                 (head + "1,e,1+\n", "line 3"),
                 (head + "1,3,1\n", "line 3"),
@@ -205,7 +216,109 @@ class Files(unittest.TestCase):
     def test_certified(self):
         with CoxeterGroup("A", 2) as group:
             table = group.kazhdan_lusztig_table(path=self.path, certified=True)
-            self.assertEqual((table, len(self.text().splitlines())), (group.kazhdan_lusztig_table(), 21))
+            self.assertEqual((table, len(self.text().splitlines())), (group.kazhdan_lusztig_table(), 22))
+            sums = Program().provenance().sha256, provenance.provenance(find_program(name="coxcheck")).sha256
+            self.assertIn("# program {}, checked by {}\n".format(*sums), self.text())
+            self.assertEqual(set(KazhdanLusztigTable.read(self.path).origins.values()), {sums})
+
+    def test_rows_of_a_file_are_checked(self):
+        """With `certified` they are, as all others are: by what each row has, and by the checker."""
+        with CoxeterGroup("A", 3) as group:
+            right = group.kazhdan_lusztig_table(path=self.path)
+            self.write(self.text().replace("2132,2,1+q\n", "2132,2,1+7q\n"))
+            changed = self.text()
+            self.assertEqual(group.kazhdan_lusztig_table(path=self.path)["2132"]["2"], [1, 7])
+            with self.assertRaises(CheckFailed), fakes.Fakes() as folder:
+                group.kazhdan_lusztig_table(path=self.path, certified=True, checker=folder.shell("exit 5"))
+            self.assertEqual(self.text(), changed)
+            with self.assertWarnsRegex(RuntimeWarning, "the rows of 1 elements are asked for anew: 2132"):
+                with unittest.mock.patch.object(group, "certificate", wraps=group.certificate) as asked:
+                    self.assertEqual(group.kazhdan_lusztig_table(path=self.path, certified=True), right)
+            self.assertEqual([call[0] for call in asked.call_args_list], [((2, 1, 3, 2),)])
+            self.assertEqual(self.lines(), sorted(lines_of(3)))
+            # The file says of which rows it was checked.
+            found = KazhdanLusztigTable.read(self.path)
+            self.assertEqual([w for w, origin in found.origins.items() if origin.checker], [(2, 1, 3, 2)])
+            self.assertEqual(found, right)
+            # A checker that says no to all has them asked for anew, and accepts none of these either.
+            with self.assertWarns(RuntimeWarning), self.assertRaises(UnexpectedAnswer), fakes.Fakes() as folder:
+                group.kazhdan_lusztig_table(path=self.path, certified=True, checker=folder.shell("cat >/dev/null; echo no 5; exit 1"))
+
+    def test_lines_are_wanted(self):
+        """Of a file without one of its lines no row is used that isn't whole."""
+        with CoxeterGroup("A", 3) as group:
+            right = group.kazhdan_lusztig_table(path=self.path)
+            lines = self.text().splitlines(keepends=True)
+            for number in sorted({*range(4), *range(4, len(lines), 4), len(lines) - 1}):
+                self.write("".join(lines[:number] + lines[number + 1 :]))
+                of = lines[number].split(",")[0]
+                with self.subTest(lines[number]), warnings.catch_warnings(record=True) as said:
+                    warnings.simplefilter("always")
+                    if number < 2:
+                        with self.assertRaises(ValueError):
+                            group.kazhdan_lusztig_table(path=self.path)
+                        continue
+                    if of[0] == "#":
+                        self.assertEqual(set(KazhdanLusztigTable.read(self.path).origins.values()), {None})
+                    elif number + 1 < len(lines) and of != "e" and number % 20 == 0:
+                        with self.assertRaisesRegex(ValueError, "is damaged"):
+                            KazhdanLusztigTable.read(self.path)
+                    self.assertEqual(group.kazhdan_lusztig_table(path=self.path), right)
+                    told = [str(it.message).rpartition(" ")[2] for it in said]
+                    # A row that is missing as a whole, or has no end at the end of the file, is as after a stop.
+                    self.assertEqual(told, [] if of[0] == "#" or of == "e" or number + 1 == len(lines) else [of])
+                self.assertEqual(self.lines(), sorted(lines_of(3)))
+                self.assertEqual(os.listdir(os.path.dirname(self.path)), ["rows.csv"])
+
+    def test_polynomials_that_cannot_be(self):
+        with CoxeterGroup("A", 3) as group:
+            right = group.kazhdan_lusztig_table(path=self.path)
+            whole = self.text()
+            for old, new in (("2132,2132,1", "2132,2132,1+q"), ("2132,2,1+q", "2132,2,0"), ("2132,2,1+q", "2132,2,1+q+q^2"), ("121,1,1", "121,1,2")):
+                self.write(whole.replace(f"\n{old}\n", f"\n{new}\n"))
+                self.assertNotEqual(self.text(), whole)
+                with self.assertWarns(RuntimeWarning):
+                    self.assertEqual(group.kazhdan_lusztig_table(path=self.path), right)
+                self.assertEqual(self.lines(), sorted(lines_of(3)))
+
+    def test_files_that_are_none(self):
+        """Such as have no end, or are no files."""
+        with CoxeterGroup("A", 3) as group:
+            os.mkfifo(self.path)
+            for path in ("/dev/full", "/dev/zero", "/dev/null", self.path):
+                for call in (lambda path: group.kazhdan_lusztig_table(path=path), KazhdanLusztigTable.read):
+                    with self.assertRaisesRegex(ValueError, "no regular file"):
+                        call(path)
+            with self.assertRaises(OSError):
+                group.kazhdan_lusztig_table(path=os.path.dirname(self.path))
+
+    def test_read(self):
+        with CoxeterGroup("A", 10) as group:
+            table = group.kazhdan_lusztig_table(["2.1", "2.10", "10.9.10"], path=self.path)
+        found = KazhdanLusztigTable.read(self.path, context=100)
+        self.assertEqual((found, found.group, type(found)), (table, group, KazhdanLusztigTable))
+        self.assertEqual(list(found), [(2, 1), (2, 10), (9, 10, 9)])
+        self.assertEqual((found.group.program.options, found.to_csv()), ({"context": 100}, table.to_csv()))
+        # A row that is being written is left out.
+        self.write(self.text() + "3,e,1\n3,3")
+        self.assertEqual(KazhdanLusztigTable.read(self.path), table)
+        for text in ("", "# type A 3", "w,x,polynomial\n", "my notes\n", "# type A 3\nx,y\n"):
+            self.write(text)
+            with self.assertRaisesRegex(ValueError, "no table of this kind"):
+                KazhdanLusztigTable.read(self.path)
+
+    def test_origins(self):
+        """A file that goes on with another program names both."""
+        with CoxeterGroup("A", 2) as group, fakes.Fakes() as folder:
+            group.kazhdan_lusztig_table(["1"], path=self.path)
+            other = folder.shell(f"exec '{find_program()}' \"$@\"")
+            with CoxeterGroup("A", 2, program=other) as again, concurrent.futures.ThreadPoolExecutor(1) as executor:
+                again.kazhdan_lusztig_table(["2"], path=self.path)
+                again.kazhdan_lusztig_table(["12", "21"], path=self.path, executor=executor)
+                sums = [it.program.checksum() for it in (group, again)]
+            found = KazhdanLusztigTable.read(self.path).origins
+            self.assertEqual([found[w].program for w in ((1,), (2,), (1, 2), (2, 1))], [sums[0], sums[1], sums[1], sums[1]])
+            self.assertEqual({it.checker for it in found.values()}, {None})
 
 
 class Plain(unittest.TestCase):
