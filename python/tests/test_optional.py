@@ -252,6 +252,18 @@ class Sage(unittest.TestCase):
                             self.assertEqual(group.left_descents(w), tuple(descents))
                     self.assertEqual(group.sage_element(group.sage().from_reduced_word(group._nodes)).length(), group.rank)
 
+    def test_cartan_matrices(self):
+        """A Cartan matrix and a Dynkin diagram stand for their Cartan types."""
+        from sage.all import CartanMatrix, DynkinDiagram
+
+        for kind in (["B", 3], ["C", 3], ["A", 2, 1], ["G", 2]):
+            for given in (CartanMatrix(kind), DynkinDiagram(kind)):
+                group = CoxeterGroup(given)
+                self.assertEqual((group, group.cartan_type()), (CoxeterGroup(kind), tuple(kind)))
+        self.assertEqual(CoxeterGroup(CartanMatrix([[2, -1], [-2, 2]])), CoxeterGroup("B2"))
+        with self.assertRaises(ValueError):
+            CoxeterGroup(CartanMatrix([[2, -3], [-2, 2]]))
+
     def test_affine_types(self):
         """The nodes of affine types by their names are Sage's, with the node 0 as the last letter."""
         from sage.all import CartanType
