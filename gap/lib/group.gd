@@ -10,13 +10,20 @@
 #F  CoxeterShellGroup( <letter>, <n> [, <options>] )
 #F  CoxeterShellGroup( <text> [, <options>] )
 #F  CoxeterShellGroup( <matrix> [, <options>] ) . . . . . . . . . a Coxeter group
+##
+##  Small letters are the affine types. A text is a type, as "B3", "B 3" and "c2", a product of types, as "A2xB2", or a line such as
+##  "matrix 3 3 2 4".
 DeclareGlobalFunction( "CoxeterShellGroup" );
 
 #O  CoxeterShellMatrix( <W> ) . . the Coxeter matrix, in which infinity is infinity
 #O  CoxeterShellRank( <W> ) . . . . . . . . . . . . . . the number of generators
+#O  CoxeterShellIsFinite( <W> ) . . . . . . . . . . whether the group is finite
+#O  CoxeterShellSize( <W> ) . . . . . . the number of elements, or infinity
 #O  ReflectionMatrices( <W> ) . . integer matrices of the generators, as they act on rows
 DeclareOperation( "CoxeterShellMatrix", [ IsCoxeterShellGroup ] );
 DeclareOperation( "CoxeterShellRank", [ IsCoxeterShellGroup ] );
+DeclareOperation( "CoxeterShellIsFinite", [ IsCoxeterShellGroup ] );
+DeclareOperation( "CoxeterShellSize", [ IsCoxeterShellGroup ] );
 DeclareOperation( "ReflectionMatrices", [ IsCoxeterShellGroup ] );
 
 #O  WordText( <W>, <w> ) . . . . . . . . . . . . a word as the program writes it
@@ -57,6 +64,8 @@ DeclareOperation( "IntersectionBettiNumbersOfWord", [ IsCoxeterShellGroup, IsLis
 #O  KazhdanLusztigRow( <W>, <w> ) . . . the pairs [ x, P(x,w) ] of the x <= w
 #O  ExtremalPairs( <W>, <w> ) . . . . . those whose x has all descents of w
 #O  KazhdanLusztigCertificate( <W>, <w> ) . . the text that coxcheck judges
+#O  ParabolicKazhdanLusztigPolynomial( <W>, <u>, <v>, <J> [, <kind>] ) . . Deodhar's
+#O  CPrimeProduct( <W>, <x>, <y> ) . . . the pairs [ z, h(x,y,z) ] of C'(x) C'(y)
 DeclareOperation( "RPolynomial", [ IsCoxeterShellGroup, IsList, IsList ] );
 DeclareOperation( "KazhdanLusztigPolynomial", [ IsCoxeterShellGroup, IsList, IsList ] );
 DeclareOperation( "InverseKazhdanLusztigPolynomial", [ IsCoxeterShellGroup, IsList, IsList ] );
@@ -64,12 +73,17 @@ DeclareOperation( "KazhdanLusztigMu", [ IsCoxeterShellGroup, IsList, IsList ] );
 DeclareOperation( "KazhdanLusztigRow", [ IsCoxeterShellGroup, IsList ] );
 DeclareOperation( "ExtremalPairs", [ IsCoxeterShellGroup, IsList ] );
 DeclareOperation( "KazhdanLusztigCertificate", [ IsCoxeterShellGroup, IsList ] );
+DeclareOperation( "ParabolicKazhdanLusztigPolynomial", [ IsCoxeterShellGroup, IsList, IsList, IsList ] );
+DeclareOperation( "ParabolicKazhdanLusztigPolynomial", [ IsCoxeterShellGroup, IsList, IsList, IsList, IsString ] );
+DeclareOperation( "CPrimeProduct", [ IsCoxeterShellGroup, IsList, IsList ] );
 
 #O  WGraph( <W> [, <side>] ) . . . . the W-graph of a finite group, as a record
 #F  WGraphDigraph( <graph> ) . . . . the same as a digraph of the package Digraphs
 #O  LeftCells( <W> ) . . . . . . . . . . . . . . . . . . . .  lists of elements
 #O  RightCells( <W> )
 #O  TwoSidedCells( <W> )
+#O  AValueOfWord( <W>, <w> ) . . . . . . . . . . . . . . . Lusztig's function a at w
+#O  DufloInvolutions( <W> ) . . one for each left cell, in the order of LeftCells
 #O  CellModule( <W>, <w> ) . . . . . the module of the left cell of w, as a record
 #O  CellModuleMatrices( <W>, <w> [, <at>] ) . . . . . . . . . . . . its matrices
 DeclareOperation( "WGraph", [ IsCoxeterShellGroup ] );
@@ -78,6 +92,8 @@ DeclareGlobalFunction( "WGraphDigraph" );
 DeclareOperation( "LeftCells", [ IsCoxeterShellGroup ] );
 DeclareOperation( "RightCells", [ IsCoxeterShellGroup ] );
 DeclareOperation( "TwoSidedCells", [ IsCoxeterShellGroup ] );
+DeclareOperation( "AValueOfWord", [ IsCoxeterShellGroup, IsList ] );
+DeclareOperation( "DufloInvolutions", [ IsCoxeterShellGroup ] );
 DeclareOperation( "CellModule", [ IsCoxeterShellGroup, IsList ] );
 DeclareOperation( "CellModuleMatrices", [ IsCoxeterShellGroup, IsList ] );
 DeclareOperation( "CellModuleMatrices", [ IsCoxeterShellGroup, IsList, IsObject ] );

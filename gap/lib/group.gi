@@ -5,30 +5,6 @@
 
 # ---- groups
 
-#F  CoxeterShellMatrixLine( <rows> ) . . . . . . . . . the line that sets a matrix
-BindGlobal( "CoxeterShellMatrixLine", function( rows )
-    local size, line, s, t, label;
-    size := Length( rows );
-    if not ForAll( rows, row -> IsList( row ) and Length( row ) = size ) then
-        ErrorNoReturn( "a Coxeter matrix has as many columns as rows" );
-    elif ForAny( [ 1 .. size ], s -> rows[s][s] <> 1 or ForAny( [ 1 .. size ], t -> rows[s][t] <> rows[t][s] ) ) then
-        ErrorNoReturn( "a Coxeter matrix is symmetric, and has 1 on its diagonal" );
-    fi;
-    line := Concatenation( "matrix ", String( size ) );
-    for s in [ 1 .. size ] do
-        for t in [ s + 1 .. size ] do
-            label := rows[s][t];
-            if label = infinity then
-                label := 0;
-            elif not IsInt( label ) or label < 0 then
-                ErrorNoReturn( "a label of a Coxeter matrix is 0, 2, 3, 4, 6 or infinity, not ", label );
-            fi;
-            Append( line, Concatenation( " ", String( label ) ) );
-        od;
-    od;
-    return line;
-end );
-
 # The options of the program, and the greatest value of each.
 BindGlobal( "CoxeterShellOptions", rec( workers := 16, context := 1048576, coef := 2^63 - 1, roots := 4096 ) );
 
@@ -51,31 +27,20 @@ BindGlobal( "CoxeterShellArguments", function( options )
 end );
 
 InstallGlobalFunction( CoxeterShellGroup, function( arg )
-    local options, words, line, W, labels, s, t, at;
+    local options, given, W, labels, s, t, at;
     options := rec();
     arg := ShallowCopy( arg );
     if arg <> [] and IsRecord( arg[ Length( arg ) ] ) then
         options := Remove( arg );
     fi;
-    if Length( arg ) = 2 and IsString( arg[1] ) and IsInt( arg[2] ) then
-        line := Concatenation( "type ", arg[1], " ", String( arg[2] ) );
-    elif Length( arg ) = 1 and IsString( arg[1] ) and arg[1] <> "" then
-        words := SplitString( arg[1], "", " " );
-        line := JoinStringsWithSeparator( words, " " );
-        if words[1] <> "type" and words[1] <> "matrix" then
-            line := Concatenation( "type ", line );
-        fi;
-    elif Length( arg ) = 1 and IsList( arg[1] ) then
-        line := CoxeterShellMatrixLine( arg[1] );
-    else
-        ErrorNoReturn( "usage: CoxeterShellGroup( \"A\", 3 ), ( \"A 3\" ), ( \"matrix 3 3 2 4\" ) or ( <Coxeter matrix> ), ",
-            "with a record of options behind it" );
-    fi;
-    if ForAny( line, it -> it < ' ' or it > '~' ) then
-        CoxeterShellRefuse( 19, line );
-    fi;
-    W := Objectify( CoxeterShellType, rec( group := line, stream := fail, sure := false, sent := 0, program := fail ) );
+    given := CoxeterShellGiven( arg );
+    W := Objectify( CoxeterShellType, rec( name := given.name, group := given.line, matrix := fail, stream := fail, sure := false, sent := 0,
+        program := fail ) );
     W!.arguments := CoxeterShellArguments( options );
+    W!.context := CoxeterShellOptions.context;
+    if IsBound( options.context ) then
+        W!.context := options.context;
+    fi;
     if IsBound( options.program ) then
         W!.program := options.program;
     fi;
@@ -100,37 +65,36 @@ end );
 InstallMethod( CoxeterShellMatrix, [ IsCoxeterShellGroup ], W -> List( W!.matrix, ShallowCopy ) );
 InstallMethod( CoxeterShellRank, [ IsCoxeterShellGroup ], W -> Length( W!.matrix ) );
 
+InstallMethod( CoxeterShellIsFinite, [ IsCoxeterShellGroup ], W -> CoxeterShellIsFiniteMatrix( W!.matrix ) );
+InstallMethod( CoxeterShellSize, [ IsCoxeterShellGroup ], function( W )
+    if CoxeterShellIsFinite( W ) then
+        return Size( Group( ReflectionMatrices( W ) ) );
+    fi;
+    return infinity;
+end );
+
 InstallMethod( \=, [ IsCoxeterShellGroup, IsCoxeterShellGroup ], { V, W } -> V!.matrix = W!.matrix );
 
-InstallMethod( ViewString, [ IsCoxeterShellGroup ], W -> Concatenation( "<Coxeter group ", W!.group, ">" ) );
+InstallMethod( ViewString, [ IsCoxeterShellGroup ], W -> Concatenation( "<Coxeter group ", W!.name, ">" ) );
 InstallMethod( PrintObj, [ IsCoxeterShellGroup ], function( W )
-    Print( "CoxeterShellGroup( \"", W!.group, "\" )" );
+    Print( "CoxeterShellGroup( \"", W!.name, "\" )" );
 end );
 InstallMethod( ViewObj, [ IsCoxeterShellGroup ], function( W )
     Print( ViewString( W ) );
 end );
 
 InstallMethod( ReflectionMatrices, [ IsCoxeterShellGroup ], function( W )
-    local found, above, below, s, t, image, label;
-    # Minus the entries of a Cartan matrix above and below its diagonal, by the labels.
-    above := m -> First( [ [ 2, 0 ], [ 3, 1 ], [ 4, 2 ], [ 6, 3 ], [ infinity, 2 ] ], it -> it[1] = m )[2];
-    below := m -> First( [ [ 2, 0 ], [ 3, 1 ], [ 4, 1 ], [ 6, 1 ], [ infinity, 2 ] ], it -> it[1] = m )[2];
-    found := [];
-    for s in [ 1 .. Length( W!.matrix ) ] do
-        image := IdentityMat( Length( W!.matrix ) );
-        for t in [ 1 .. Length( W!.matrix ) ] do
-            label := W!.matrix[s][t];
-            if s = t then
-                image[s][s] := -1;
-            elif s < t then
-                image[t][s] := above( label );
-            else
-                image[t][s] := below( label );
-            fi;
+    local cartan, letters;
+    cartan := CoxeterShellCartanMatrix( W!.matrix );
+    letters := [ 1 .. Length( cartan ) ];
+    return List( letters, function( s )
+        local image, t;
+        image := IdentityMat( Length( cartan ) );
+        for t in letters do
+            image[t][s] := image[t][s] - cartan[s][t];
         od;
-        Add( found, image );
-    od;
-    return found;
+        return image;
+    end );
 end );
 
 # ---- words
@@ -152,7 +116,7 @@ InstallMethod( WordText, [ IsCoxeterShellGroup, IsList ], function( W, w )
         dot := ".";
     elif ForAny( w, it -> it > 9 ) then
         # Two digits would be two letters.
-        CoxeterShellRefuse( 16, JoinStringsWithSeparator( w, "." ) );
+        CoxeterShellRefuse( 16, JoinStringsWithSeparator( w, "." ), CoxeterShellReason( W, 16, "" ) );
     fi;
     return JoinStringsWithSeparator( List( w, String ), dot );
 end );

@@ -18,3 +18,6 @@ DeclareGlobalFunction( "CoxeterShellClose" );
 
 #V  CoxeterShellRefusals . . . . . . . . . .  what refusals mean, by their numbers
 DeclareGlobalVariable( "CoxeterShellRefusals" );
+
+#F  CoxeterShellReason( <W>, <number>, <line> ) . . the cause of a refusal, in words
+DeclareGlobalFunction( "CoxeterShellReason" );

@@ -38,12 +38,49 @@ BindGlobal( "CoxeterShellMostOfInput", 16000000 );
 BindGlobal( "CoxeterShellRunning", [] );
 BindGlobal( "CoxeterShellMostRunning", 40 );
 
-#F  CoxeterShellRefuse( <number>, <line> ) . . . the error of a refusal, in words
-BindGlobal( "CoxeterShellRefuse", function( number, line )
+#F  CoxeterShellForget( ) . . . . . . . . . . . . no group has a process from now on
+##
+##  A stream is a number, which belongs to the process of GAP that opened it. In another one, after a workspace was loaded or in a child of
+##  this one, the number may be that of another stream: so it is neither asked nor closed there.
+BindGlobal( "CoxeterShellForget", function()
+    local W;
+    while CoxeterShellRunning <> [] do
+        W := Remove( CoxeterShellRunning );
+        W!.stream := fail;
+    od;
+end );
+
+# As the first of such functions: one of GAP's own reads the files that GAP is started with.
+Add( GAPInfo.PostRestoreFuncs, CoxeterShellForget, 1 );
+
+# The number of the process of GAP that the streams belong to, which the package IO tells; without it GAP has no children.
+BindGlobal( "CoxeterShellOwner", [ 0 ] );
+
+#F  CoxeterShellCheckOwner( ) . . . . . . . . . forgets the processes of the parent
+BindGlobal( "CoxeterShellCheckOwner", function()
+    local owner;
+    if IsBoundGlobal( "IO_getpid" ) then
+        owner := ValueGlobal( "IO_getpid" )();
+        if CoxeterShellOwner[1] <> owner then
+            if CoxeterShellOwner[1] <> 0 then
+                CoxeterShellForget();
+            fi;
+            CoxeterShellOwner[1] := owner;
+        fi;
+    fi;
+end );
+
+#F  CoxeterShellRefuse( <number>, <line>, <detail> ) . . the error of a refusal, in words
+##
+##  <detail> says which of its causes it has, where that is known, and is else empty.
+BindGlobal( "CoxeterShellRefuse", function( number, line, detail )
     local meaning;
     meaning := "a refusal that this package doesn't know";
     if IsBound( CoxeterShellRefusals[number] ) then
         meaning := CoxeterShellRefusals[number];
+    fi;
+    if detail <> "" then
+        meaning := Concatenation( meaning, ": ", detail );
     fi;
     if Length( line ) > 100 then
         line := Concatenation( line{[ 1 .. 80 ]}, " .." );
@@ -138,32 +175,39 @@ BindGlobal( "CoxeterShellStart", function( W )
     if Length( CoxeterShellRunning ) >= CoxeterShellMostRunning then
         CoxeterShellClose( CoxeterShellRunning[1] );
     fi;
+    Add( CoxeterShellRunning, W );
     W!.stream := InputOutputLocalProcess( DirectoryCurrent(), path, W!.arguments );
     if W!.stream = fail then
+        CoxeterShellClose( W );
         ErrorNoReturn( "the program ", path, " can't be started: perhaps other packages run too many processes" );
     fi;
-    Add( CoxeterShellRunning, W );
     W!.sent := 0;
     CoxeterShellExchange( W, "" );
     answer := CoxeterShellExchange( W, W!.group );
     if Length( answer ) = 1 and StartsWith( answer[1], "error " ) then
         CoxeterShellClose( W );
-        CoxeterShellRefuse( Int( answer[1]{[ 7 .. Length( answer[1] ) ]} ), W!.group );
+        CoxeterShellRefuse( Int( answer[1]{[ 7 .. Length( answer[1] ) ]} ), W!.group, "" );
     elif answer <> [] then
         CoxeterShellClose( W );
         ErrorNoReturn( "an unexpected answer to ", W!.group, ": nothing should have come, and not ", answer[1] );
     fi;
 end );
 
+#F  CoxeterShellHasEnded( <W> ) . . . . . . . . whether a process that runs has ended
+##
+##  It has nothing to say where it was not asked. So there is something to be read where it has ended alone: by Ctrl-C at the prompt, too,
+##  which goes to all processes of the terminal.
+BindGlobal( "CoxeterShellHasEnded", W -> UNIXSelect( [ FileDescriptorOfStream( W!.stream ) ], [], [], 0, 0 ) > 0 );
+
 InstallGlobalFunction( CoxeterShellAsk, function( W, line )
-    local answer, words;
+    local answer, words, number;
     if not IsCoxeterShellGroup( W ) or not IsString( line ) then
         ErrorNoReturn( "usage: CoxeterShellAsk( <W>, <line> ) with a group of this package and a string" );
     fi;
     if Length( line ) > CoxeterShellMostOfLine then
-        CoxeterShellRefuse( 18, line );
+        CoxeterShellRefuse( 18, line, "" );
     elif ForAny( line, it -> it < ' ' or it > '~' ) then
-        CoxeterShellRefuse( 19, line );
+        CoxeterShellRefuse( 19, line, "" );
     fi;
     words := SplitString( line, "", " " );
     if words <> [] and words[1] in [ "type", "matrix" ] then
@@ -171,18 +215,21 @@ InstallGlobalFunction( CoxeterShellAsk, function( W, line )
     elif words in [ [ "quit" ], [ "jobs" ] ] then
         ErrorNoReturn( words[1], " is not answered at once: CoxeterShellClose ends the program, and questions are asked one by one" );
     fi;
-    if W!.stream = fail or not W!.sure or W!.sent + Length( line ) + 4 > CoxeterShellMostOfInput then
+    CoxeterShellCheckOwner();
+    if W!.stream = fail or not W!.sure or W!.sent + Length( line ) + 4 > CoxeterShellMostOfInput or CoxeterShellHasEnded( W ) then
         CoxeterShellStart( W );
     fi;
     answer := CoxeterShellExchange( W, line );
     if Length( answer ) = 1 and StartsWith( answer[1], "error " ) then
-        CoxeterShellRefuse( Int( answer[1]{[ 7 .. Length( answer[1] ) ]} ), line );
+        number := Int( answer[1]{[ 7 .. Length( answer[1] ) ]} );
+        CoxeterShellRefuse( number, line, CoxeterShellReason( W, number, line ) );
     fi;
     return answer;
 end );
 
 InstallGlobalFunction( CoxeterShellClose, function( W )
     local at;
+    CoxeterShellCheckOwner();
     at := PositionProperty( CoxeterShellRunning, it -> IsIdenticalObj( it, W ) );
     if at <> fail then
         Remove( CoxeterShellRunning, at );

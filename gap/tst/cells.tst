@@ -85,16 +85,18 @@ false
 gap> LeftCells( CoxeterShellGroup( "a", 2 ) );
 Error, error 31: the interval below the element, or the group, is infinite or \
 has more members than the option `context' allows, or than 4,096 in a certific\
-ate (the line was lcells)
+ate: the group is infinite, and W-graphs, cells and their modules are for fini\
+te groups (the line was lcells)
 gap> WGraph( CoxeterShellGroup( "A", 3, rec( context := 23 ) ) );
 Error, error 31: the interval below the element, or the group, is infinite or \
 has more members than the option `context' allows, or than 4,096 in a certific\
-ate (the line was lwgraph)
+ate: the group has 24 elements, and `context' allows 23 (the line was lwgraph)
 gap> CellModule( CoxeterShellGroup( "a", 1 ), "1" );
 Error, error 31: the interval below the element, or the group, is infinite or \
 has more members than the option `context' allows, or than 4,096 in a certific\
-ate (the line was module 1)
+ate: the group is infinite, and W-graphs, cells and their modules are for fini\
+te groups (the line was module 1)
 gap> CellModule( W, "3" );
-Error, error 16: a word has a letter that the group doesn't have (the line was\
- module 3)
+Error, error 16: a word has a letter that the group doesn't have: the letters \
+of <Coxeter group type A 2> are 1 to 2 (the line was module 3)
 gap> STOP_TEST( "cells.tst" );

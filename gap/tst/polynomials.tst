@@ -44,7 +44,8 @@ true
 gap> KazhdanLusztigPolynomial( CoxeterShellGroup( "A", 3, rec( context := 10 ) ), "e", "121321" );
 Error, error 31: the interval below the element, or the group, is infinite or \
 has more members than the option `context' allows, or than 4,096 in a certific\
-ate (the line was pol e 121321)
+ate: there are more than 10 elements of 24 below 121321, and `context' allows \
+no more (the line was pol e 121321)
 gap> RPolynomial( CoxeterShellGroup( "D", 7 ), "e", LongestWord( CoxeterShellGroup( "D", 7 ) ) );
 Error, error 34: R-polynomials are refused for elements whose lengths differ b\
 y more than 39, and certificates of longer elements (the line was rpol e 12132\

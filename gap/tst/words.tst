@@ -73,11 +73,11 @@ gap> ForAll( [ "A 3", "B 4", "D 5", "E 6", "F 4", "G 2", "a 3", "matrix 3 3 4 6"
 >   end );
 true
 gap> LengthOfWord( W, "14" );
-Error, error 16: a word has a letter that the group doesn't have (the line was\
- length 14)
+Error, error 16: a word has a letter that the group doesn't have: the letters \
+of <Coxeter group type A 3> are 1 to 3 (the line was length 14)
 gap> LengthOfWord( W, [ 14 ] );
-Error, error 16: a word has a letter that the group doesn't have (the line was\
- 14)
+Error, error 16: a word has a letter that the group doesn't have: the letters \
+of <Coxeter group type A 3> are 1 to 3 (the line was 14)
 gap> LengthOfWord( W, "1 2" );
 Error, a word has letters and dots, and no spaces: 1 2
 gap> LengthOfWord( W, [ 0 ] );
@@ -88,15 +88,17 @@ gap> LengthOfWord( W, ListWithIdenticalEntries( 256, 1 ) );
 Error, error 17: a word has more than 255 letters (the line was length 1111111\
 111111111111111111111111111111111111111111111111111111111111111111 ..)
 gap> CoxeterShellGroup( "H", 3 );
-Error, error 13: there is no such type (the line was type H 3)
+Error, error 13: there is no such type: H 3 has a label other than 2, 3, 4, 6 \
+and infinity, and such labels are not taken (the line was type H 3)
 gap> CoxeterShellGroup( "A", 17 );
-Error, error 13: there is no such type (the line was type A 17)
+Error, error 13: there is no such type: groups have rank 1 to 16 (the line was\
+ type A 17)
 gap> CoxeterShellGroup( "A", -1 );
 Error, error 12: an argument should be a number and is none, or it is out of r\
 ange (the line was type A -1)
 gap> CoxeterShellGroup( "A\t3" );
 Error, error 19: the line has a byte that is no printing ASCII character and n\
-o space (the line was type A	3)
+o space (the line was A	3)
 gap> CoxeterShellGroup( [] );
 Error, error 12: an argument should be a number and is none, or it is out of r\
 ange (the line was matrix 0)
@@ -110,8 +112,8 @@ Error, a Coxeter matrix has as many columns as rows
 gap> CoxeterShellGroup( [ [ 1, 1/2 ], [ 1/2, 1 ] ] );
 Error, a label of a Coxeter matrix is 0, 2, 3, 4, 6 or infinity, not 1/2
 gap> CoxeterShellGroup();
-Error, usage: CoxeterShellGroup( "A", 3 ), ( "A 3" ), ( "matrix 3 3 2 4" ) or \
-( <Coxeter matrix> ), with a record of options behind it
+Error, usage: CoxeterShellGroup( "A", 3 ), ( "A3" ), ( "A2xB2" ), ( "matrix 3 \
+3 2 4" ) or ( <Coxeter matrix> ), with a record of options behind it
 gap> CoxeterShellGroup( "A", 3, rec( workers := 0 ) );
 Error, the option workers is 1 to 16, and not 0
 gap> CoxeterShellGroup( "A", 3, rec( colour := 1 ) );
@@ -168,11 +170,12 @@ gap> LengthOfWord( W, "12" );
 gap> V := CoxeterShellGroup( "A", 3, rec( context := 23, workers := 2, coef := 100 ) );; BettiNumbersOfWord( V, LongestWord( V ) );
 Error, error 31: the interval below the element, or the group, is infinite or \
 has more members than the option `context' allows, or than 4,096 in a certific\
-ate (the line was betti 121321)
+ate: there are more than 23 elements of 24 below 121321, and `context' allows \
+no more (the line was betti 121321)
 gap> Length( CoxeterShellAsk( V, "lcells" ) );
 Error, error 31: the interval below the element, or the group, is infinite or \
 has more members than the option `context' allows, or than 4,096 in a certific\
-ate (the line was lcells)
+ate: the group has 24 elements, and `context' allows 23 (the line was lcells)
 gap> BettiNumbersOfWord( V, "12" );
 [ 1, 2, 1 ]
 gap> groups := List( [ 1 .. 100 ], i -> CoxeterShellGroup( "A", 2 ) );;

@@ -133,7 +133,14 @@ def of_object(kind):
     The nodes are in Sage's order, but a node 0, as affine types have it, becomes the last letter. A named type is found by
     its Coxeter matrix.
     """
-    matrix = kind.coxeter_matrix()
+    try:
+        matrix = kind.coxeter_matrix()
+    except TypeError:
+        # Cartan matrices and Dynkin diagrams of Sage leave that to their Cartan types, where they have one.
+        given, kind = kind, getattr(kind, "cartan_type", lambda: None)()
+        if kind is None or kind is given:
+            raise ValueError(f"no Coxeter matrix is known of it: {given!r}") from None
+        matrix = kind.coxeter_matrix()
     if not hasattr(matrix, "index_set"):
         return named(of_rows(matrix))
     nodes = sorted(matrix.index_set(), key=lambda node: node == 0)

@@ -188,6 +188,32 @@ class Polynomial:
         # A constant is equal to a number. Other polynomials are equal to the tuples of their coefficients.
         return hash(self.coefficients if len(self.coefficients) > 1 else self.coefficient(0))
 
+    # The order of the values at large arguments: that of the leading coefficient of the difference.
+
+    def __lt__(self, other: Any) -> Any:
+        """Whether the values of this one are less than those of the other at all large arguments. So polynomials in one variable, and
+        integers, can be sorted.
+
+        >>> sorted([Polynomial([1, 2]), Polynomial([0, 0, 1]), Polynomial([7]), Polynomial([1, 1])])
+        [7, 1+q, 1+2q, q^2]
+        """
+        return self._compared(other, operator.lt)
+
+    def __le__(self, other: Any) -> Any:
+        return self._compared(other, operator.le)
+
+    def __gt__(self, other: Any) -> Any:
+        return self._compared(other, operator.gt)
+
+    def __ge__(self, other: Any) -> Any:
+        return self._compared(other, operator.ge)
+
+    def _compared(self, other, how):
+        if from_sage(other):
+            return bool(how(self.sage(), other))
+        difference = NotImplemented if self._terms(other) is None else self - other
+        return NotImplemented if difference is NotImplemented else how(([*difference.coefficients] or [0])[-1], 0)
+
     def __bool__(self) -> bool:
         return bool(self.coefficients)
 
@@ -240,8 +266,19 @@ class Polynomial:
         return self.sage()
 
     def _polynomial_(self, ring):
-        # So does Sage make an element of one of its polynomial rings, as in ZZ['q'](p).
-        return ring(list(self.coefficients))
+        # So does Sage make an element of one of its polynomial rings, as in ZZ['q'](p): as it does of a polynomial of its own.
+        return ring(self.sage())
+
+    def _symbolic_(self, ring):
+        # So does Sage make a symbolic expression, as in SR(p); and numbers of constants, as in ZZ(p).
+        return ring(self.sage())
+
+    _integer_ = _symbolic_
+
+    def _rational_(self):
+        from sage.all import QQ
+
+        return QQ(self.sage())
 
     def __setattr__(self, name, value):
         raise AttributeError("a polynomial can't be changed")

@@ -17,10 +17,14 @@ or let Sage itself use it, wherever it uses Coxeter 3:
 """
 import sys
 import types
+from collections.abc import Hashable
 
 from sage.categories.coxeter_groups import CoxeterGroups
-from sage.combinat.root_system.cartan_type import CartanType
+from sage.combinat.root_system.cartan_matrix import CartanMatrix
+from sage.combinat.root_system.cartan_type import CartanType, CartanType_abstract
 from sage.combinat.root_system.coxeter_matrix import CoxeterMatrix
+from sage.combinat.root_system.coxeter_type import CoxeterType
+from sage.combinat.root_system.dynkin_diagram import DynkinDiagram_class
 from sage.misc.cachefunc import cached_method
 from sage.misc.superseded import deprecation
 from sage.rings.infinity import infinity
@@ -28,13 +32,20 @@ from sage.rings.integer import Integer
 from sage.rings.integer_ring import ZZ
 from sage.rings.polynomial.polynomial_ring_constructor import PolynomialRing
 from sage.sets.family import Family
+from sage.structure.element import Element
 from sage.structure.element_wrapper import ElementWrapper
 from sage.structure.parent import Parent
 from sage.structure.richcmp import richcmp
 from sage.structure.unique_representation import UniqueRepresentation
 
-from . import group
+from . import group, kinds
 from .errors import Refusal
+from .program import MOST_OF_WORD
+from .sage_cells import CellModule, Cells  # noqa: F401
+from .sage_words import element_of, is_whole, nodes_in_order, register_conversions, word_of
+
+# What Sage takes for a Cartan type, though it is a matrix or a graph that has one.
+WITH_TYPE = (CartanMatrix, DynkinDiagram_class)
 
 # The module of Sage in whose place this one stands.
 REPLACED = "sage.libs.coxeter3.coxeter_group"
@@ -60,50 +71,45 @@ def register():
     sys.modules[REPLACED] = sys.modules[__name__]
 
 
-def nodes_in_order(cartan_type):
-    """The nodes of a Cartan type in the order of Coxeter 3's letters, by which it takes the first of the reduced words of an element.
-
-        sage: from coxeter_shell.sage import nodes_in_order
-        sage: [nodes_in_order(CartanType(it)) for it in (["A", 3], ["B", 3], ["A", 2, 1], ["D", 4, 1], ["E", 6, 1])]
-        [[1, 2, 3], [3, 2, 1], [0, 1, 2], [4, 3, 2, 1, 0], [1, 2, 3, 4, 5, 6, 0]]
-        sage: nodes_in_order(CartanType(["B", 3]).relabel({1: 7, 2: 8, 3: 9}))
-        [9, 8, 7]
-    """
-    if hasattr(cartan_type, "_relabelling"):
-        return [cartan_type._relabelling[node] for node in nodes_in_order(cartan_type._type)]
-    nodes = list(cartan_type.index_set())
-    if cartan_type.is_irreducible():
-        if cartan_type.type() in ("B", "C", "D", "F"):
-            return nodes[::-1]
-        if cartan_type.type() == "E" and cartan_type.is_affine():
-            return nodes[1:] + nodes[:1]
-    return nodes
-
-
-def cartan_type_of(matrix):
-    """The Cartan type of a Coxeter matrix of Sage. Matrices without one are a NotImplementedError.
+def cartan_type_of(given):
+    """The Cartan type of what stands for a group: a type, its name, a Cartan matrix, a Dynkin diagram, a Coxeter matrix, or a group of Sage
+    that has one of these. What has no Cartan type is a NotImplementedError.
 
         sage: from coxeter_shell.sage import CoxeterGroup
         sage: CoxeterGroup(CoxeterMatrix(["B", 3]))
         Coxeter group of type ['B', 3] implemented by coxeter_shell
+        sage: CoxeterGroup(CartanMatrix("B3")) is CoxeterGroup(DynkinDiagram("B3")) is CoxeterGroup("B3")
+        True
+        sage: CoxeterGroup(WeylGroup(["C", 3]))
+        Coxeter group of type ['C', 3] implemented by coxeter_shell
     """
-    found = matrix.coxeter_type()
-    if not hasattr(found, "cartan_type"):
+    if isinstance(given, WITH_TYPE):
+        found = given.cartan_type()
+    elif isinstance(given, CoxeterMatrix) or hasattr(given, "coxeter_type") and not hasattr(given, "cartan_type"):
+        found = given.coxeter_type()
+    else:
+        try:
+            found = CartanType(given)
+        except TypeError:
+            raise TypeError(f"{given!r} is no Cartan type, and has none") from None
+    if isinstance(found, CoxeterType) and hasattr(found, "cartan_type"):
+        found = found.cartan_type()
+    if not isinstance(found, CartanType_abstract) or isinstance(found, WITH_TYPE):
         raise NotImplementedError("the matrix has no Cartan type: coxeter_shell.CoxeterGroup takes it")
-    return found.cartan_type()
+    return found
 
 
-class Letters(tuple):
-    """A normal form, in the letters of the program."""
-
-    __slots__ = ()
-
-
-class CoxeterGroup(UniqueRepresentation, Parent):
+class CoxeterGroup(Cells, UniqueRepresentation, Parent):
     """The Coxeter group of a Cartan type, of rank 1 to 16, whose labels are 2, 3, 4, 6 and infinity. Its elements are the normal forms of
     Coxeter 3, as words in the nodes of the Cartan type.
 
-    `program` and the options of the program may be given, as for `coxeter_shell.CoxeterGroup`. That group is the attribute `shell`.
+    A word is a list, a tuple, an iterator or a word of Sage, whose letters are nodes; it need not be reduced. Elements of Sage's groups
+    with the same nodes and Coxeter matrix are taken as well, as of a Weyl group, `CoxeterGroup` in each of its implementations,
+    `SymmetricGroup`, `Permutations` and `SignedPermutations`. What is none of these is a TypeError, and a letter that is no node a
+    ValueError. The way back is `as_element_of`.
+
+    `program` and the options of the program may be given, as for `coxeter_shell.CoxeterGroup`. `coxeter_shell.CoxeterGroup(W)` is the
+    group of that package, which takes elements of W as words; its letters are the nodes, and a node 0 is its last letter.
 
         sage: from coxeter_shell.sage import CoxeterGroup
         sage: W = CoxeterGroup(["A", 2]); W
@@ -114,16 +120,13 @@ class CoxeterGroup(UniqueRepresentation, Parent):
         Traceback (most recent call last):
         ...
         NotImplementedError: there is no group of type ['H', 3]: a label of the matrix is not 0, 2, 3, 4 or 6
-        sage: to_skip = ["_test_degrees", "_test_codegrees"]
-        sage: TestSuite(W).run(skip=to_skip)
-        sage: TestSuite(CoxeterGroup(["C", 2, 1])).run(skip=to_skip)
+        sage: TestSuite(W).run()
+        sage: TestSuite(CoxeterGroup(["C", 2, 1])).run()
     """
 
     @staticmethod
     def __classcall__(cls, cartan_type, *args, **options):
-        if isinstance(cartan_type, CoxeterMatrix):
-            cartan_type = cartan_type_of(cartan_type)
-        return super().__classcall__(cls, CartanType(cartan_type), *args, **options)
+        return super().__classcall__(cls, cartan_type_of(cartan_type), *args, **options)
 
     def __init__(self, cartan_type, **options):
         category = CoxeterGroups()
@@ -131,27 +134,68 @@ class CoxeterGroup(UniqueRepresentation, Parent):
             category = category.Finite()
         Parent.__init__(self, category=category)
         self._cartan_type = cartan_type
+        # Sage's methods look for it by this name.
+        self._index_set = cartan_type.index_set()
         self._nodes = nodes_in_order(cartan_type)
         self._letters = {node: letter for letter, node in enumerate(self._nodes, 1)}
+        self._last_judged = None, False
         matrix = cartan_type.coxeter_matrix()
         try:
-            self.shell = group.CoxeterGroup([[matrix[s, t] for t in self._nodes] for s in self._nodes], **options)
+            self._shell = group.CoxeterGroup([[matrix[s, t] for t in self._nodes] for s in self._nodes], **options)
         except Refusal as refusal:
             raise NotImplementedError(f"there is no group of type {cartan_type}: {refusal.meaning}") from refusal
+        register_conversions(self)
 
     def _repr_(self):
         return f"Coxeter group of type {self.cartan_type()} implemented by coxeter_shell"
 
     def __iter__(self):
         """The elements, in ShortLex order."""
-        return map(self._element, self.shell.elements())
+        return map(self._element, self._shell.elements())
+
+    # The program has letters, and Sage has nodes. What is public here is in nodes.
 
     def _element(self, letters):
         """The element of a normal form, which the program has given."""
-        return self.element_class(self, Letters(letters))
+        made = self.element_class.__new__(self.element_class)
+        ElementWrapper.__init__(made, self, tuple([self._nodes[letter - 1] for letter in letters]))
+        return made
 
     def _element_constructor_(self, word):
         return self.element_class(self, word)
+
+    def _find_letter(self, node):
+        """The letter of a node, None where it is none. 1.0 and True are no nodes, though they are equal to 1."""
+        letter = self._letters.get(node) if isinstance(node, Hashable) else None
+        return letter if letter is None or is_whole(node) or not is_whole(self._nodes[letter - 1]) else None
+
+    def _letter(self, node):
+        """The letter of a node. What is no node is a ValueError."""
+        letter = self._find_letter(node)
+        if letter is None:
+            raise ValueError(f"{node!r} is no node of {self.cartan_type()}")
+        return letter
+
+    def _nodes_of(self, word):
+        """The nodes of a word, or of an element."""
+        return [self._nodes[self._letter(node) - 1] for node in word_of(self, word)]
+
+    def _word(self, w):
+        """The letters of the normal form of a word, or of an element."""
+        return tuple([self._letters[node] for node in self(w).value])
+
+    def _node_set(self, letters):
+        """The nodes of a set of letters, as a rising tuple."""
+        return tuple(sorted(self._nodes[letter - 1] for letter in letters))
+
+    def _product(self, nodes):
+        """The letters of the normal form of a list of nodes, which may be longer than the program takes at once."""
+        letters = [self._letters[node] for node in nodes]
+        return self._shell.product(*(letters[at : at + MOST_OF_WORD] for at in range(0, len(letters), MOST_OF_WORD)))
+
+    def close(self):
+        """Ends the program. Another question would start it again."""
+        self._shell.close()
 
     def cartan_type(self):
         """The Cartan type."""
@@ -168,7 +212,7 @@ class CoxeterGroup(UniqueRepresentation, Parent):
 
     def rank(self):
         """The number of the nodes."""
-        return Integer(self.shell.rank)
+        return Integer(self._shell.rank)
 
     @cached_method
     def coxeter_matrix(self):
@@ -180,7 +224,7 @@ class CoxeterGroup(UniqueRepresentation, Parent):
             [3 1 4]
             [2 4 1]
         """
-        matrix, places = self.shell.coxeter_matrix(), [self._letters[node] - 1 for node in self.index_set()]
+        matrix, places = self._shell.coxeter_matrix(), [self._letters[node] - 1 for node in self.index_set()]
         rows = [[-1 if matrix[s][t] == infinity else Integer(matrix[s][t]) for t in places] for s in places]
         return CoxeterMatrix(rows, self.index_set())
 
@@ -195,7 +239,7 @@ class CoxeterGroup(UniqueRepresentation, Parent):
 
     def is_finite(self):
         """Whether the group is finite."""
-        return self.shell.is_finite()
+        return self._shell.is_finite()
 
     def cardinality(self):
         """How many elements the group has.
@@ -204,9 +248,55 @@ class CoxeterGroup(UniqueRepresentation, Parent):
             sage: CoxeterGroup(["E", 8]).cardinality(), CoxeterGroup(["A", 2, 1]).cardinality()
             (696729600, +Infinity)
         """
-        return Integer(self.shell.cardinality()) if self.is_finite() else infinity
+        return Integer(self._shell.cardinality()) if self.is_finite() else infinity
 
     order = cardinality
+
+    def degrees(self):
+        """The degrees of the invariants of a finite group, those of each irreducible component as a rising tuple, one after another.
+
+            sage: from coxeter_shell.sage import CoxeterGroup
+            sage: CoxeterGroup(["B", 3]).degrees(), CoxeterGroup(["B", 3]).codegrees(), CoxeterGroup("A2xB2").degrees()
+            ((2, 4, 6), (0, 2, 4), (2, 3, 2, 4))
+        """
+        if not self.is_finite():
+            raise ValueError("an infinite group has no degrees")
+        matrix, found = self._shell.coxeter_matrix(), ()
+        for nodes in self.irreducible_component_index_sets():
+            part = kinds.part(matrix, [self._letter(node) - 1 for node in nodes])
+            found += tuple(map(Integer, group.CoxeterGroup(part).degrees()))
+        return found
+
+    @cached_method
+    def reflection_index_set(self):
+        """The numbers of the reflections of a finite group, from 1 on.
+
+            sage: from coxeter_shell.sage import CoxeterGroup
+            sage: CoxeterGroup(["B", 2]).reflection_index_set()
+            (1, 2, 3, 4)
+        """
+        return tuple(map(Integer, range(1, len(self._all_reflections()) + 1)))
+
+    hyperplane_index_set = reflection_index_set
+
+    def reflection(self, number):
+        """The reflection of a number, in ShortLex order of the program. `reflections()` is the family of them all.
+
+            sage: from coxeter_shell.sage import CoxeterGroup
+            sage: W = CoxeterGroup(["B", 2])
+            sage: W.reflection(3), W.reflections()
+            ([2, 1, 2], Finite family {1: [2], 2: [1], 3: [2, 1, 2], 4: [1, 2, 1]})
+        """
+        listed = self._all_reflections()
+        if not is_whole(number) or not 1 <= number <= len(listed):
+            raise ValueError(f"the reflections have the numbers 1 to {len(listed)}, and not {number!r}")
+        return listed[number - 1]
+
+    distinguished_reflection = reflection
+
+    @cached_method
+    def _all_reflections(self):
+        return list(map(self._element, self._shell.reflections()))
 
     def one(self):
         """The identity."""
@@ -241,7 +331,7 @@ class CoxeterGroup(UniqueRepresentation, Parent):
             sage: CoxeterGroup(["A", 3]).bruhat_interval([1], [3, 1, 2, 3])
             [[1], [1, 2], [1, 3], [1, 2, 3], [1, 3, 2], [1, 2, 3, 2]]
         """
-        return list(map(self._element, self.shell.iter_bruhat_interval(self(u).value, self(v).value)))
+        return list(map(self._element, self._shell.iter_bruhat_interval(self._word(u), self._word(v))))
 
     def kazhdan_lusztig_polynomial(self, u, v, constant_term_one=True):
         """The Kazhdan-Lusztig polynomial P(u, v); or, in the convention of Leclerc and Thibon, q^(l(v)-l(u)) P(u, v)(1/q^2).
@@ -252,7 +342,7 @@ class CoxeterGroup(UniqueRepresentation, Parent):
             q^3 + q
         """
         u, v = self(u), self(v)
-        found = self.shell.kazhdan_lusztig_polynomial(u.value, v.value)
+        found = self._shell.kazhdan_lusztig_polynomial(self._word(u), self._word(v))
         return self._polynomial(found, v.length() - u.length(), constant_term_one)
 
     def parabolic_kazhdan_lusztig_polynomial(self, u, v, J, constant_term_one=True):
@@ -263,11 +353,31 @@ class CoxeterGroup(UniqueRepresentation, Parent):
             sage: CoxeterGroup(["A", 3]).parabolic_kazhdan_lusztig_polynomial([2], [2, 1, 3, 2], [1, 3])
             q
         """
-        u, v, letters = self(u), self(v), [self._letters[node] for node in J]
+        if isinstance(J, (str, Element)):
+            raise TypeError(f"J is a list or a set of nodes, and not {J!r}")
+        u, v, letters = self(u), self(v), [self._letter(node) for node in J]
         if any(w.has_right_descent(node) for w in (u, v) for node in J):
             raise ValueError("u and v have to be minimal coset representatives")
-        found = self.shell.parabolic_kazhdan_lusztig_polynomial(u.value, v.value, letters)
+        found = self._shell.parabolic_kazhdan_lusztig_polynomial(self._word(u), self._word(v), letters)
         return self._polynomial(found, v.length() - u.length(), constant_term_one)
+
+    def inverse_kazhdan_lusztig_polynomial(self, u, v):
+        """The inverse Kazhdan-Lusztig polynomial Q(u, v).
+
+            sage: from coxeter_shell.sage import CoxeterGroup
+            sage: CoxeterGroup(["B", 3]).inverse_kazhdan_lusztig_polynomial([2], [2, 1, 3, 2])
+            q + 1
+        """
+        return self._polynomial(self._shell.inverse_kazhdan_lusztig_polynomial(self._word(u), self._word(v)), 0, True)
+
+    def r_polynomial(self, u, v):
+        """The R-polynomial R(u, v).
+
+            sage: from coxeter_shell.sage import CoxeterGroup
+            sage: CoxeterGroup(["B", 3]).r_polynomial([], [2, 3])
+            q^2 - 2*q + 1
+        """
+        return self._polynomial(self._shell.r_polynomial(self._word(u), self._word(v)), 0, True)
 
     def _polynomial(self, found, difference, constant_term_one):
         """A polynomial of the program in Sage, for elements whose lengths differ by so much."""
@@ -276,29 +386,27 @@ class CoxeterGroup(UniqueRepresentation, Parent):
         return PolynomialRing(ZZ, "q", sparse=True)({difference - 2 * degree: it for degree, it in enumerate(found) if it})
 
     class Element(ElementWrapper):
-        """An element. It is a list of nodes, its normal form, and `value` has the same in letters of the program.
+        """An element. It is a list of nodes, its normal form, and `value` is the tuple of them.
 
             sage: from coxeter_shell.sage import CoxeterGroup
             sage: W = CoxeterGroup(["B", 3])
             sage: w = W([1, 3, 2, 2]); w, w.value
-            ([3, 1], (1, 3))
+            ([3, 1], (3, 1))
         """
 
-        wrapped_class = Letters
+        wrapped_class = tuple
 
         def __init__(self, parent, word):
-            if not isinstance(word, Letters):
-                try:
-                    letters = [parent._letters[node] for node in word]
-                except KeyError as node:
-                    raise ValueError(f"{node} is no node of {parent.cartan_type()}") from None
-                word = Letters(parent.shell.product(letters))
-            ElementWrapper.__init__(self, parent, word)
+            made = parent._element(parent._product(parent._nodes_of(word)))
+            ElementWrapper.__init__(self, parent, made.value)
+
+        def _word(self):
+            """The letters of the normal form."""
+            return self.parent()._word(self)
 
         def reduced_word(self):
             """The normal form, as the list of its nodes."""
-            nodes = self.parent()._nodes
-            return [nodes[letter - 1] for letter in self.value]
+            return list(self.value)
 
         def _repr_(self):
             return repr(self.reduced_word())
@@ -323,13 +431,44 @@ class CoxeterGroup(UniqueRepresentation, Parent):
 
         def _mul_(self, other):
             W = self.parent()
-            return W._element(W.shell.product(self.value, other.value))
+            return W._element(W._shell.product(self._word(), other._word()))
 
         def __invert__(self):
             W = self.parent()
-            return W._element(W.shell.inverse(self.value))
+            return W._element(W._shell.inverse(self._word()))
 
         inverse = __invert__
+
+        def order(self):
+            """The order of the element, which may be infinite.
+
+                sage: from coxeter_shell.sage import CoxeterGroup
+                sage: CoxeterGroup(["B", 3])([1, 2, 3]).order(), CoxeterGroup(["A", 1, 1])([0, 1]).order()
+                (6, +Infinity)
+            """
+            found = self.parent()._shell.order(self._word())
+            return infinity if found == infinity else Integer(found)
+
+        def as_element_of(self, other):
+            """The same element in another Coxeter group of Sage, which has the same nodes and the same Coxeter matrix.
+
+            In a Weyl group, in `SymmetricGroup` and in `SignedPermutations` it is the product of their generators. In `Permutations` it is
+            the permutation with the same reduced words, by which permutations are multiplied as maps.
+
+                sage: from coxeter_shell.sage import CoxeterGroup
+                sage: w = CoxeterGroup(["A", 3])([1, 2])
+                sage: w.as_element_of(SymmetricGroup(4)), w.as_element_of(Permutations(4)), w.as_element_of(WeylGroup(["A", 3], prefix="s"))
+                ((1,3,2), [2, 3, 1, 4], s1*s2)
+                sage: w.as_element_of(WeylGroup(["B", 3]))
+                Traceback (most recent call last):
+                ...
+                TypeError: [1, 2] is no element of Weyl Group of type ['B', 3] (as a matrix group acting on the ambient space): ...
+            """
+            return element_of(self, other)
+
+        def to_matrix(self):
+            """The matrix in the canonical representation of the group, `canonical_matrix()`."""
+            return self.canonical_matrix()
 
         def bruhat_le(self, other):
             """Whether this element is at most the other one in Bruhat order.
@@ -340,7 +479,7 @@ class CoxeterGroup(UniqueRepresentation, Parent):
                 (True, False)
             """
             W = self.parent()
-            return W.shell.bruhat_le(self.value, W(other).value)
+            return W._shell.bruhat_le(self._word(), W._word(other))
 
         def coatoms(self):
             """The elements that this one covers in Bruhat order: those of the words without one letter, from the first letter on.
@@ -350,18 +489,19 @@ class CoxeterGroup(UniqueRepresentation, Parent):
                 [[2, 3], [3, 1], [1, 2]]
             """
             W = self.parent()
-            shorter = (W.shell.normal_form(self.value[:k] + self.value[k + 1 :]) for k in range(len(self)))
-            return [W._element(word) for word in shorter if len(word) == len(self) - 1]
+            word = self._word()
+            shorter = (W._shell.normal_form(word[:k] + word[k + 1 :]) for k in range(len(word)))
+            return [W._element(it) for it in shorter if len(it) == len(word) - 1]
 
         def has_right_descent(self, node):
             """Whether the product with the generator of a node is shorter."""
             W = self.parent()
-            return W._letters.get(node) in W.shell.right_descents(self.value)
+            return W._find_letter(node) in W._shell.right_descents(self._word())
 
         def has_left_descent(self, node):
             """Whether the product of the generator of a node with this element is shorter."""
             W = self.parent()
-            return W._letters.get(node) in W.shell.left_descents(self.value)
+            return W._find_letter(node) in W._shell.left_descents(self._word())
 
         def poincare_polynomial(self):
             """The sum of t^l(x) over the x that are at most this element.
@@ -370,7 +510,7 @@ class CoxeterGroup(UniqueRepresentation, Parent):
                 sage: CoxeterGroup(["A", 3])([2, 1, 3, 2]).poincare_polynomial()
                 t^4 + 4*t^3 + 5*t^2 + 3*t + 1
             """
-            return PolynomialRing(ZZ, "t")(list(self.parent().shell.betti_numbers(self.value)))
+            return PolynomialRing(ZZ, "t")(list(self.parent()._shell.betti_numbers(self._word())))
 
         def kazhdan_lusztig_polynomial(self, v):
             """P(u, v) for this element u."""
@@ -385,7 +525,17 @@ class CoxeterGroup(UniqueRepresentation, Parent):
                 1
             """
             W = self.parent()
-            return Integer(W.shell.mu_coefficient(self.value, W(v).value))
+            return Integer(W._shell.mu_coefficient(self._word(), W._word(v)))
+
+        def kazhdan_lusztig_cell(self, side="left"):
+            """The set of the elements of the left, right or two-sided cell.
+
+                sage: from coxeter_shell.sage import CoxeterGroup
+                sage: sorted(CoxeterGroup(["B", 2])([1]).kazhdan_lusztig_cell())
+                [[1], [1, 2, 1], [2, 1]]
+            """
+            W = self.parent()
+            return set(map(W._element, W._shell._cell(side, self._word())))
 
         def action(self, vector):
             """How this element moves a vector of the root space.

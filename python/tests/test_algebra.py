@@ -1,11 +1,15 @@
 """Names that Sage has, products in the basis C', modules as matrices, and how long tables are written."""
+import copy
+import functools
 import itertools
 import math
+import operator
+import pickle
 import unittest
 import unittest.mock
 
 import reference
-from coxeter_shell import Cells, CoxeterGroup, InV, Laurent
+from coxeter_shell import Cells, CoxeterGroup, InV, Laurent, Polynomial
 
 
 def zero_hecke(n, words):
@@ -110,9 +114,43 @@ class Products(unittest.TestCase):
         self.assertEqual((p + 1 - 1, 2 * p, 1 - p, p * 0), (p, p + p, -p + 1, 0))
         self.assertEqual(hash(Laurent({0: 3})), hash(3))
         self.assertEqual((repr(p(1)), repr(p(2)), p(0.5)), ("1", "Fraction(31, 8)", -7.0))
-        for call in (lambda: p + "1", lambda: p * 1.5, lambda: Laurent({0.5: 1}), lambda: setattr(p, "coefficients", {})):
+        for call in (lambda: p + "1", lambda: p * 1.5, lambda: Laurent({0.5: 1}), lambda: setattr(p, "coefficients", {}), lambda: p < 0.5):
             with self.assertRaises((TypeError, AttributeError)):
                 call()
+        for change in (lambda: p.update({1: 5}), lambda: p.pop(1), p.clear, p.popitem, lambda: p.setdefault(9, 1), lambda: operator.setitem(p, 1, 5)):
+            with self.assertRaises(AttributeError):
+                change()
+        self.assertRaises(AttributeError, operator.delitem, p, 1)
+        self.assertRaises(AttributeError, operator.ior, p, {1: 5})
+        self.assertEqual((p.coefficients, p[1], p[7], pickle.loads(pickle.dumps(p)), copy.copy(p)), ({-3: -1, 1: 2}, 2, 0, p, p))
+        self.assertTrue(p != 1 and not p != Laurent({1: 2, -3: -1}) and Laurent({0: 3}) == 3)
+
+    def test_powers(self):
+        p = Laurent({1: 2, -3: -1})
+        for exponent in range(5):
+            self.assertEqual(p**exponent, functools.reduce(operator.mul, [p] * exponent, Laurent({0: 1})))
+        for v in (Laurent({1: 1}), Laurent({-2: -1})):
+            self.assertEqual((v**-3 * v**3, v**0), (1, 1))
+        for wrong in (p, Laurent(), Laurent({1: 2})):
+            with self.assertRaises(ValueError):
+                wrong**-1
+        self.assertRaises(TypeError, lambda: p**0.5)
+
+    def test_order(self):
+        """It is the order of the values at large arguments, and one with all numbers and sums."""
+        some = [(), (0, 1), (1, 1), (3,), (-1, 0, 1), (2, -7), (0, 0, -1), (-4,), (1, 0, 1)]
+        for kind in (Polynomial, lambda it: Laurent({e - 1: c for e, c in enumerate(it)})):
+            made = [*map(kind, some), 2, -9]
+            values = {id(it): it if isinstance(it, int) else it(1000) for it in made}
+            for shift in range(5):
+                listed = sorted(made[shift:] + made[:shift])
+                self.assertEqual([values[id(it)] for it in listed], sorted(values.values()))
+            for p, q in itertools.product(made, repeat=2):
+                a, b = values[id(p)], values[id(q)]
+                self.assertEqual((p < q, p <= q, p > q, p >= q), (a < b, a <= b, a > b, a >= b))
+        for wrong in ("1", 0.5, InV([0, 1]), Laurent({1: 1})):
+            with self.assertRaises(TypeError):
+                sorted([Polynomial([0, 1]), wrong])
 
 
 class Modules(unittest.TestCase):

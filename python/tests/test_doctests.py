@@ -7,8 +7,8 @@ import unittest
 
 import coxeter_shell
 
-# A program runs when the first is imported, and the second needs Sage: checks/sage tries it.
-APART = ("__main__", "sage")
+# A program runs when the first is imported, and the others need Sage: checks/sage tries them.
+APART = ("__main__", "sage", "sage_cells", "sage_words")
 
 
 def load_tests(_, tests, __):

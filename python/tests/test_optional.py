@@ -11,7 +11,7 @@ import subprocess
 import tempfile
 import unittest
 
-from coxeter_shell import CoxeterGroup, Polynomial, gap, pictures
+from coxeter_shell import CoxeterGroup, Laurent, Polynomial, gap, pictures
 from coxeter_shell import kinds as known_kinds
 
 
@@ -178,6 +178,34 @@ class Sage(unittest.TestCase):
         # The same polynomial in another unknown is another one.
         self.assertFalse(p == ZZ["v"]([1, 0, 2]) or ZZ["v"]([1, 0, 2]) == p)
 
+    def test_other_rings(self):
+        """Where they go is where a polynomial of Sage goes."""
+        from sage.all import GF, QQ, SR, ZZ, FractionField, IwahoriHeckeAlgebra, LaurentPolynomialRing, LaurentSeriesRing, PolynomialRing
+        from sage.all import PowerSeriesRing
+
+        p, ours = ZZ["q"]([1, 0, 2]), Polynomial([1, 0, 2])
+        rings = [ZZ["q,t"], QQ["t,q"], ZZ["q"]["t"], ZZ["t"]["q"], ZZ["x"], GF(2)["q"], LaurentPolynomialRing(ZZ, "q"), FractionField(ZZ["q"])]
+        rings += [LaurentPolynomialRing(ZZ, "q,t"), PowerSeriesRing(QQ, "q"), SR, PolynomialRing(ZZ, "q", sparse=True)]
+        for ring in rings:
+            self.assertTrue(ring(ours) == ring(p) and ring(ours).parent() is ring)
+        self.assertEqual((ZZ(Polynomial([5])), QQ(Polynomial()), ZZ(Laurent({0: 5}))), (5, 0, 5))
+        for wrong in (lambda: ZZ["x,y"](ours), lambda: ZZ(ours), lambda: ZZ(Laurent({1: 1})), lambda: ZZ["v"](Laurent({-1: 1}))):
+            with self.assertRaises((TypeError, ValueError)):
+                wrong()
+        v = LaurentPolynomialRing(ZZ, "v").gen()
+        h = Laurent({-1: 1, 2: -3})
+        theirs = v**-1 - 3 * v**2
+        for ring in (v.parent(), LaurentPolynomialRing(GF(2), "v"), LaurentPolynomialRing(QQ, "x"), LaurentSeriesRing(QQ, "v"), SR):
+            self.assertTrue(ring(h) == ring(theirs) and ring(h).parent() is ring)
+        self.assertTrue(h.sage() == theirs == h and h.sage().parent() is v.parent() and (h**3).sage() == theirs**3)
+        self.assertEqual(ZZ["v"](Laurent({0: 1, 2: 3})), ZZ["v"]([1, 0, 3]))
+        self.assertEqual((v * h, h * v, h - v), (v * theirs, theirs * v, theirs - v))
+        self.assertTrue(ours < p**2 and not ours < 1 + ZZ["q"].gen())
+        with CoxeterGroup("A", 3) as group:
+            C = IwahoriHeckeAlgebra("A3", v**2).Cp()
+            found = {tuple(w.reduced_word()): c for w, c in C[1, 2] * C[2, 1]}
+            self.assertEqual(found, {x: C.base_ring()(c) for x, c in group.c_prime_product("12", "21").items()})
+
     def test_kazhdan_lusztig_polynomials(self):
         """Sage computes them by itself, slowly."""
         from sage.all import ZZ, WeylGroup
@@ -223,6 +251,18 @@ class Sage(unittest.TestCase):
                             descents = sorted(group._nodes.index(it) + 1 for it in w.descents(side="left"))
                             self.assertEqual(group.left_descents(w), tuple(descents))
                     self.assertEqual(group.sage_element(group.sage().from_reduced_word(group._nodes)).length(), group.rank)
+
+    def test_cartan_matrices(self):
+        """A Cartan matrix and a Dynkin diagram stand for their Cartan types."""
+        from sage.all import CartanMatrix, DynkinDiagram
+
+        for kind in (["B", 3], ["C", 3], ["A", 2, 1], ["G", 2]):
+            for given in (CartanMatrix(kind), DynkinDiagram(kind)):
+                group = CoxeterGroup(given)
+                self.assertEqual((group, group.cartan_type()), (CoxeterGroup(kind), tuple(kind)))
+        self.assertEqual(CoxeterGroup(CartanMatrix([[2, -1], [-2, 2]])), CoxeterGroup("B2"))
+        with self.assertRaises(ValueError):
+            CoxeterGroup(CartanMatrix([[2, -3], [-2, 2]]))
 
     def test_affine_types(self):
         """The nodes of affine types by their names are Sage's, with the node 0 as the last letter."""
