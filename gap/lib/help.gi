@@ -80,7 +80,7 @@ BindGlobal( "CoxeterShellSections", function( lines )
         elif StartsWith( line, "| `" ) then
             cells := SplitString( line, "|" );
             Add( now.lines, "" );
-            for name in CoxeterShellNames( cells[2] ) do
+            for name in Set( CoxeterShellNames( cells[2] ) ) do
                 Add( now.entries, [ name, Length( now.lines ) ] );
             od;
             Append( now.lines, CoxeterShellWrapped( CoxeterShellPlain( cells[2] ), "  " ) );
@@ -146,6 +146,8 @@ HELP_BOOK_HANDLER.CoxeterShell := rec(
     ShowChapters := CoxeterShellContents,
     ShowSections := CoxeterShellContents,
     SearchMatches := HELP_BOOK_HANDLER.default.SearchMatches,
+    # Where all matches are in one section, it is shown at once.
+    SubsectionNumber := { book, number } -> HELP_BOOK_INFO( book ).entries[number][3],
     MatchPrevChap := CoxeterShellMatch( -1 ),
     MatchNextChap := CoxeterShellMatch( 1 ),
     MatchPrev := CoxeterShellMatch( -1 ),
