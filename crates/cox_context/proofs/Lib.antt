@@ -1,6 +1,7 @@
 pub mod LinkedWords
 pub mod MadeContexts
 pub mod PlacedWords
+pub mod RisingMembers
 pub mod FirstLetters
 pub mod Ideals
 pub mod GrowingMembers
@@ -23,10 +24,10 @@ pub mod InverseNumbers
 pub mod ShortLexLists
 pub mod IntervalLists
 pub mod GroupSizes
-pub mod Spreading
+pub mod PushedMembers
+pub mod ShorterWords
 pub mod Appended
 pub mod AppendedEnds
-pub mod ListedMembers
 pub mod PushedRows
 pub mod CutTables
 pub mod UnionSizes

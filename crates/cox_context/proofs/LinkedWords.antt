@@ -1,5 +1,5 @@
 -- The words of members that are given by links.
-use Rattle.std.proofs.Common.{◌≡◌, ℕ, zero, suc, ◌+◌, ◌≤◌, ◌<◌, List, [], ◌∷◌, ◌++◌, length, take, append_assoc, refl, ap, sym}
+use Rattle.std.proofs.Common.{◌≡◌, ℕ, zero, suc, ◌+◌, ◌-◌, ◌≤◌, ◌<◌, List, [], ◌∷◌, ◌++◌, length, take, append_assoc, refl, ap, sym}
 use Rattle.std.proofs.Common.{◌∙◌, ⊎_elim, arith}
 use Rattle.std.proofs.Common.{length-append, get_or}
 use Rattle.std.proofs.lemmas.Bool.{cases_lt}
@@ -151,3 +151,30 @@ links-take links n h some within = record {
 -- a link that was read
 pub link-read : (links : List Link) (i : ℕ) (link : Link) → i < length links → link ≡ get_or links i link → link_at links i ≡ link
 link-read links i link l e = get_or_default links i (record { first = 0; letters = 0; rest = 0 }) link l ∙ sym e
+
+-- ---- the last link
+
+module _ (links : List Link) (h : AreMemberLinks links) (n : ℕ) (size : n ≡ length links) (last : Link)
+    (is : last ≡ get_or links (n - 1) last) where
+  inside : n - 1 < length links
+  inside = omega (arith, size, h.some)
+
+  read : link_at links (n - 1) ≡ last
+  read = link-read links (n - 1) last inside is
+
+  pub last-letters : last.letters ≡ length (word_at (linked_words links) (n - 1))
+  last-letters = rw (← read) (h.letters (n - 1) inside)
+
+  -- unless it is that of the identity, it begins with the first letter of its word
+  module _ (some : 0 < last.letters) where
+    later : 0 < n - 1
+    later = ⊎_elim (λ more. more) (λ (none : n - 1 ≤ 0).
+        let first : n - 1 ≡ 0 = omega (arith, none)
+        in absurd (omega (arith, some, last-letters, ap length (ap (word_at (linked_words links)) first ∙ words-first links))))
+        (cases_lt 0 (n - 1))
+
+    pub last-word : word_at (linked_words links) (n - 1) ≡ last.first ∷ word_at (linked_words links) last.rest
+    last-word = rw (← read) (words-link links (n - 1) later inside (h.inward (n - 1) later inside))
+
+    pub last-inward : last.rest < length links
+    last-inward = let l : last.rest < n - 1 = rw (← read) (h.inward (n - 1) later inside) in omega (arith, l, inside)

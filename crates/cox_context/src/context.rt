@@ -3,7 +3,7 @@
 //! - `growing`: adds the members below an element behind the others
 //! - `finding`: the number of the element that a word names
 //! - `look_ups`: what is known of a member by its number
-ghost use Rattle.std.specs.Prelude.{◌≡◌, ◌≤◌, length, IfOk, IfErr};
+ghost use Rattle.std.specs.Prelude.{◌≡◌, ◌≤◌, ◌↔◌, length, IfOk, IfErr, IsTrue};
 ghost use Rattle.cox_base.specs.Matrix.{IsWord};
 ghost use Rattle.cox_base.specs.Admissible.{IsAdmissible};
 ghost use Rattle.cox_base.specs.IntegerMatrix.{integer_matrix};
@@ -11,7 +11,7 @@ ghost use Rattle.cox_base.specs.ShortLex.{normal_form};
 ghost use Rattle.cox_base.specs.Descents.{left_descents, right_descents};
 ghost use Rattle.cox_base.specs.Members.{IsElement, IsInInterval};
 ghost use Rattle.cox_context.specs.Closed.{IsClosed};
-ghost use Rattle.cox_base.specs.SortedList.{IsListOf};
+ghost use Rattle.cox_base.specs.SortedList.{IsListOf, IsRising};
 ghost use Rattle.cox_context.specs.FaultMeaning.{IsRefusal};
 ghost use Rattle.cox_context.specs.Shifts.{AreLeftShifts};
 
@@ -35,7 +35,7 @@ use std::marker::Model;
 /// The elements of Bruhat intervals from the identity, or of a whole finite group: distinct normal forms, closed downwards.
 ///
 /// A member's number is its place, from 0, so the identity has the number 0. Numbers rise in Bruhat order. In a new context the members are
-/// in ShortLex order; those that are added later come behind them. The members' left and right shifts and descents are kept by number. On
+/// in ShortLex order; those that are added later come behind them, and `is_in_order` tells whether all are in that order still. The members' left and right shifts and descents are kept by number. On
 /// request the numbers of their inverses are kept, too, and the shifts of few members in two bytes each, so that look-ups read half as much
 /// memory. Contracts see the Coxeter matrix and the list of the members; `len` tells what holds of each such list.
 #[derive(Drop)]
@@ -224,6 +224,13 @@ impl Context {
     {
         let _rank = self.group.rank();
         self.listing.members.len()
+    }
+
+    /// Whether the members are in ShortLex order, as they are in a new context. It is kept, and not looked for.
+    pub fn is_in_order(&self) -> bool
+        ensures { IsTrue result ↔ IsRising self.now.members }
+    {
+        self.listing.members.are_in_order()
     }
 
     /// The Coxeter matrix of the group.

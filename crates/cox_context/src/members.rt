@@ -1,5 +1,9 @@
 //! The members of a context, by number.
-ghost use Rattle.std.specs.Prelude.{◌≡◌, ◌<◌, ◌≤◌, [], ◌∷◌, ◌++◌, length, take, IfOk, OnOk, OnErr};
+ghost use Rattle.std.specs.Prelude.{◌≡◌, ◌+◌, ◌-◌, ◌<◌, ◌≤◌, ◌↔◌, [], ◌∷◌, ◌++◌, length, take, IfOk, OnOk, OnErr, IsTrue};
+ghost use Rattle.std.specs.declared.cmp.Ordering.TheVariants.{Less};
+ghost use Rattle.cox_base.specs.ShortLex.{shortlex_cmp};
+ghost use Rattle.cox_base.specs.SortedList.{IsRising};
+ghost use Rattle.cox_context.specs.Links.{AreRising};
 ghost use Rattle.cox_context.specs.Numbers.{word_at};
 
 use cox_base::{MAX_LETTERS, Word};
@@ -21,17 +25,19 @@ pub(crate) struct Link {
 #[derive(Drop)]
 pub(crate) struct Members {
     links: Vec<Link>,
+    // how many of them, from the identity on, are in ShortLex order
+    rising: u32,
 }
 
 impl Model for Members {
     ghost use Rattle.std.specs.Prelude.{ℕ, List};
-    ghost use Rattle.cox_context.specs.Links.{linked_words, AreMemberLinks};
+    ghost use Rattle.cox_context.specs.Links.{linked_words, AreMembers};
 
     ghost Value = { List (List ℕ) };
 
     ghost view = { λ m. linked_words m.links.items };
 
-    ghost invariant = { λ m. AreMemberLinks m.links.items };
+    ghost invariant = { λ m. AreMembers m.links.items m.rising };
 }
 
 impl Members {
@@ -45,7 +51,7 @@ impl Members {
             letters: 0,
             rest: 0,
         })?;
-        Ok(Members { links })
+        Ok(Members { links, rising: 1 })
     }
 
     /// How many members there are.
@@ -77,6 +83,13 @@ impl Members {
         self.links[i as usize].letters as u32
     }
 
+    /// Whether the members are in ShortLex order.
+    pub(crate) fn are_in_order(&self) -> bool
+        ensures { IsTrue result ↔ IsRising self.now }
+    {
+        self.rising == self.len()
+    }
+
     /// The word of a member.
     pub(crate) fn word(&self, i: u32) -> Word
         requires { i < length self.now }
@@ -102,12 +115,48 @@ impl Members {
         ensures kept { OnErr result (self.new ≡ self.old) }
     {
         let letters = self.links[rest as usize].letters + 1;
-        self.links.push(Link {
+        let link = Link {
             first: s,
             letters,
             rest,
-        })?;
+        };
+        let rising = self.rising_with(link);
+        self.links.push(link)?;
+        self.rising = rising;
         Ok(())
+    }
+
+    /// How many members are in ShortLex order, from the identity on, with the word of this link behind the others.
+    fn rising_with(&self, link: Link) -> u32
+        requires member { link.rest < length self.now }
+        requires letters { link.letters ≡ length (word_at self.now link.rest) + 1 }
+        ensures { AreRising (self.now ++ (link.first ∷ word_at self.now link.rest) ∷ []) result }
+    {
+        if self.are_in_order() && self.last_is_before(link) {
+            self.rising + 1
+        } else {
+            self.rising
+        }
+    }
+
+    /// Whether the last member comes before the word of a link in ShortLex order, where all members are in that order.
+    ///
+    /// So of words with one first letter and one length the one comes first whose rest has the lesser number.
+    fn last_is_before(&self, link: Link) -> bool
+        requires rising { IsRising self.now }
+        requires member { link.rest < length self.now }
+        requires letters { link.letters ≡ length (word_at self.now link.rest) + 1 }
+        ensures { IsTrue result ↔ (shortlex_cmp (word_at self.now (length self.now - 1)) (link.first ∷ word_at self.now link.rest)
+            ≡ Less) }
+    {
+        let last = self.links[self.links.len() - 1];
+        if last.letters != link.letters {
+            return last.letters < link.letters;
+        }
+        if last.first != link.first {
+            return last.first < link.first;
+        }
+        last.rest < link.rest
     }
 
     /// Only the first members, so many.
@@ -117,5 +166,6 @@ impl Members {
         ensures { self.new ≡ take count self.old }
     {
         self.links.truncate(count as usize);
+        self.rising = self.rising.min(count);
     }
 }

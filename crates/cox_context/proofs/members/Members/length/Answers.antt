@@ -14,4 +14,4 @@ returns-clause-length c =
     (arith, c.requires, words-size c.self.inside.links.items, ap (λ (words : List (List ℕ)). length words) c.self.view_is)
     in let read : link_at c.self.inside.links.items c.args.i ≡ c.index.result.now
     = link-read c.self.inside.links.items c.args.i c.index.result.now inside c.index.ensures
-    in rw (← c.self.view_is, ← read) (c.self.invariant.letters c.args.i inside)
+    in rw (← c.self.view_is, ← read) (c.self.invariant.linked.letters c.args.i inside)

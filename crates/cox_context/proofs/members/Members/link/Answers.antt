@@ -15,7 +15,7 @@ returns-clause-word c =
     in let read : link_at c.self.inside.links.items c.args.i ≡ c.index.result.now
     = link-read c.self.inside.links.items c.args.i c.index.result.now inside c.index.ensures
     in rw (← c.self.view_is, ← read) (words-link c.self.inside.links.items c.args.i c.requires.some inside
-    (c.self.invariant.inward c.args.i c.requires.some inside))
+    (c.self.invariant.linked.inward c.args.i c.requires.some inside))
 
 pub returns-clause-inward : goal.returns-clause-inward
 returns-clause-inward c =
@@ -23,4 +23,4 @@ returns-clause-inward c =
     (arith, c.requires.member, words-size c.self.inside.links.items, ap (λ (words : List (List ℕ)). length words) c.self.view_is)
     in let read : link_at c.self.inside.links.items c.args.i ≡ c.index.result.now
     = link-read c.self.inside.links.items c.args.i c.index.result.now inside c.index.ensures
-    in rw (← read) (c.self.invariant.inward c.args.i c.requires.some inside)
+    in rw (← read) (c.self.invariant.linked.inward c.args.i c.requires.some inside)

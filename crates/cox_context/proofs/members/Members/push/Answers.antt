@@ -16,8 +16,18 @@ overflow_add-letters c =
     in let read : link_at c.self.inside.links.items c.args.rest ≡ c.index.result.now
     = link-read c.self.inside.links.items c.args.rest c.index.result.now inside c.index.ensures
     in let letters : c.index.result.now.letters ≡ length (word_at c.args.self.now c.args.rest) =
-    rw (← c.self.view_is, ← read) (c.self.invariant.letters c.args.rest inside)
+    rw (← c.self.view_is, ← read) (c.self.invariant.linked.letters c.args.rest inside)
     in omega (arith, letters, c.requires.short)
+
+pub rising_with-rising-requires-clause-letters : goal.rising_with-rising-requires-clause-letters
+rising_with-rising-requires-clause-letters c =
+    let inside : c.args.rest < length c.self.inside.links.items = omega
+    (arith, c.requires.member, words-size c.self.inside.links.items, ap (λ (words : List (List ℕ)). length words) c.self.view_is)
+    in let read : link_at c.self.inside.links.items c.args.rest ≡ c.index.result.now
+    = link-read c.self.inside.links.items c.args.rest c.index.result.now inside c.index.ensures
+    in let letters : c.index.result.now.letters ≡ length (word_at c.args.self.now c.args.rest) =
+    rw (← c.self.view_is, ← read) (c.self.invariant.linked.letters c.args.rest inside)
+    in omega (arith, letters)
 
 pub invariant_of-self-2 : goal.invariant_of-self-2
 invariant_of-self-2 c =
@@ -26,10 +36,13 @@ invariant_of-self-2 c =
     in let read : link_at c.self.inside.links.items c.args.rest ≡ c.index.result.now
     = link-read c.self.inside.links.items c.args.rest c.index.result.now inside c.index.ensures
     in let letters : c.index.result.now.letters ≡ length (word_at (linked_words c.self.inside.links.items) c.args.rest) =
-    rw (← read) (c.self.invariant.letters c.args.rest inside)
-    in rw c.in_ok-push.ensures.items (links-push c.self.inside.links.items _ c.self.invariant
-    (omega (arith, c.requires.room, words-size c.self.inside.links.items, ap (λ (words : List (List ℕ)). length words) c.self.view_is))
-    inside (omega (arith, letters)))
+    rw (← read) (c.self.invariant.linked.letters c.args.rest inside)
+    in rw c.in_ok-push.ensures.items (record {
+      linked = links-push c.self.inside.links.items _ c.self.invariant.linked
+          (omega (arith, c.requires.room, words-size c.self.inside.links.items, ap (λ (words : List (List ℕ)). length words) c.self.view_is))
+          inside (omega (arith, letters));
+      order = rw (words-push c.self.inside.links.items _ c.self.invariant.linked.some, c.self.view_is) c.rising_with-rising.ensures;
+    })
 
 pub returns-clause-pushed : goal.returns-clause-pushed
-returns-clause-pushed c = rw (c.in_ok-push.ensures.items, ← c.self.view_is) (words-push c.self.inside.links.items _ c.self.invariant.some)
+returns-clause-pushed c = rw (c.in_ok-push.ensures.items, ← c.self.view_is) (words-push c.self.inside.links.items _ c.self.invariant.linked.some)
