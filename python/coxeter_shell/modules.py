@@ -6,6 +6,7 @@ from typing import Any, Dict, List
 
 from . import texts
 from .base import Element, Word
+from .errors import Refusal
 from .polynomial import Polynomial
 
 
@@ -90,7 +91,10 @@ class CellModule:
         ([[0, -v], [v^3, -v^2]], True)
         """
         spelling = texts.Spelling(len(self.images))
-        letters = spelling.element(spelling.write(word))
+        try:
+            letters = spelling.element(spelling.write(word))
+        except Refusal:
+            raise ValueError(f"{word!r} has a letter that the group doesn't have") from None
         places = {y: at for at, y in enumerate(self.elements)}
         rows = [[InV()] * len(self.elements) for _ in self.elements]
         for column, x in enumerate(self.elements):
