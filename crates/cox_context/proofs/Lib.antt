@@ -24,10 +24,10 @@ pub mod InverseNumbers
 pub mod ShortLexLists
 pub mod IntervalLists
 pub mod GroupSizes
-pub mod PushedMembers
-pub mod ShorterWords
+pub mod Spreading
 pub mod Appended
 pub mod AppendedEnds
+pub mod ListedMembers
 pub mod PushedRows
 pub mod CutTables
 pub mod UnionSizes

@@ -13,7 +13,7 @@ use Rattle.cox_reflect.proofs.Search.{normal_form-same, normal_form-equal, word_
 use Rattle.cox_reflect.proofs.Lengths.{word_length-is}
 use Rattle.cox_lemmas.proofs.PushedItems.{push-length}
 use Rattle.cox_context.proofs.PlacedWords.{word_at-old, word_at-new}
-use Rattle.cox_context.proofs.PushedMembers.{contains_cases}
+use Rattle.cox_context.proofs.Spreading.{contains_cases}
 use Rattle.cox_reflect.proofs.NormalElements.{element-word}
 use Rattle.cox_context.specs.declared.shifts.TheConstants.{NO_MEMBER}
 use Rattle.cox_base.specs.Members.{IsElement}

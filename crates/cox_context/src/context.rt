@@ -35,9 +35,10 @@ use std::marker::Model;
 /// The elements of Bruhat intervals from the identity, or of a whole finite group: distinct normal forms, closed downwards.
 ///
 /// A member's number is its place, from 0, so the identity has the number 0. Numbers rise in Bruhat order. In a new context the members are
-/// in ShortLex order; those that are added later come behind them, and `is_in_order` tells whether all are in that order still. The members' left and right shifts and descents are kept by number. On
-/// request the numbers of their inverses are kept, too, and the shifts of few members in two bytes each, so that look-ups read half as much
-/// memory. Contracts see the Coxeter matrix and the list of the members; `len` tells what holds of each such list.
+/// in ShortLex order; those that are added later come behind them, and `is_in_order` tells whether all are in that order still. The
+/// members' left and right shifts and descents are kept by number. On request the numbers of their inverses are kept, too, and the shifts
+/// of few members in two bytes each, so that look-ups read half as much memory. Contracts see the Coxeter matrix and the list of the
+/// members; `len` tells what holds of each such list.
 #[derive(Drop)]
 pub struct Context {
     group: Coxeter,

@@ -1,5 +1,6 @@
 -- The extremal members by the bits of their descents.
-use Rattle.std.proofs.Common.{◌≡◌, ℕ, zero, suc, ◌+◌, ◌*◌, ◌/◌, ◌%◌, ◌^◌, ◌-◌, ◌<◌, ◌≤◌, List, [], ◌∷◌, length, ◌↔◌, Option, None, Some, Result, Ok, Err, refl, arith}
+use Rattle.std.proofs.Common.{◌≡◌, ℕ, zero, suc, ◌+◌, ◌*◌, ◌/◌, ◌%◌, ◌^◌, ◌-◌, ◌<◌, ◌≤◌, List, [], ◌∷◌, length, ◌↔◌}
+use Rattle.std.proofs.Common.{Option, None, Some, Result, Ok, Err, refl, arith}
 use Rattle.std.specs.Prelude.{slice_get, IfSome, IsBitSet, OnOk}
 use Rattle.std.specs.Global.{Vec}
 use Rattle.std.proofs.lemmas.Nat.Bits.{bit_at_ones}
@@ -63,7 +64,8 @@ module _ (e : Elements) (g : IsAdmissible (integer_matrix e.matrix)) (target : T
     (are : AreDescentBits e bits) (done : target.member < bits.done) (all some few : List ℕ)
     (size : length all ≡ target.member / 64 + 1) (still : length some ≡ length all)
     (full : (k : ℕ) → k < target.member / 64 + 1 → number_at all k ≡ 2 ^ 64 - 1)
-    (left : (y : ℕ) → y < 64 * length all → HasBit some y ↔ (HasBit all y × HasLetters bits.left.items target.left (length bits.left.items) y))
+    (left : (y : ℕ) → y < 64 * length all
+    → HasBit some y ↔ (HasBit all y × HasLetters bits.left.items target.left (length bits.left.items) y))
     (right : (y : ℕ) → y < 64 * length some
     → HasBit few y ↔ (HasBit some y × HasLetters bits.right.items target.right (length bits.right.items) y)) where
   bit-extremal : (y : ℕ) → y < target.member + 1 → HasBit few y

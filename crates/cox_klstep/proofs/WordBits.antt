@@ -86,7 +86,8 @@ module _ (words : List ℕ) (place last from rest : ℕ) (numbers : List ℕ) (l
     lowest-within = place-lowest.0
 
     pub lowest-ahead : from ≤ lowest
-    lowest-ahead = ⊎_elim (λ (less : lowest < from). absurd (omega (arith, low lowest less, place-lowest.1))) (λ (more : from ≤ lowest). more)
+    lowest-ahead = ⊎_elim (λ (less : lowest < from). absurd (omega (arith, low lowest less, place-lowest.1)))
+        (λ (more : from ≤ lowest). more)
         (cases_lt lowest from)
 
     -- the lowest bit of the rest is that of a member past the last one
@@ -190,7 +191,8 @@ module _ (e : Elements) (side : Side) (s : ℕ) where
     room = omega (arith, same, is, there, length-set words place word);
     each = λ y l. ⊎_elim
         (λ (at : y / 64 ≡ place). ⊎_elim
-        (λ (old : y < from). rw (at, get_or-set_same words place word 0 there, before (y % 64) (omega (arith, at, is, old)), ← at) (h.each y old))
+        (λ (old : y < from). rw (at, get_or-set_same words place word 0 there, before (y % 64) (omega (arith, at, is, old)), ← at)
+        (h.each y old))
         (λ (new : from ≤ y). rw (at, get_or-set_same words place word 0 there) (members y new l))
         (cases_lt y from))
         (λ (apart : y / 64 ≡ place → ⊥). rw (get_or-set_other words place (y / 64) word 0 apart)

@@ -1,13 +1,12 @@
 -- Lists that are sorted by the ShortLex order of words, and the order of two members by their first letters.
-use Rattle.std.proofs.Common.{◌≡◌, ◌≢◌, ℕ, zero, suc, ◌+◌, ◌-◌, ◌≤◌, ◌<◌, false, List, [], ◌∷◌, length, get_or, ◌⊎◌, inl, inr, ⊎_elim}
+use Rattle.std.proofs.Common.{◌≡◌, ◌≢◌, ℕ, ◌≤◌, ◌<◌, false, List, [], ◌∷◌, length, get_or, ◌⊎◌, inl, inr, ⊎_elim}
 use Rattle.std.proofs.Common.{Ordering, Less, Equal, Greater, nat_cmp, is_lt, eqb, All, IsPermutation, refl, ap, sym, ◌∙◌, arith}
 use Rattle.std.specs.List.{AllPairs}
-use Rattle.std.specs.List.Sorted.{IsSortedByKey}
-use Rattle.std.specs.Cmp.{IsTotalOrder}
+use Rattle.std.specs.List.Sorted.{IsSortedByKey, IsNonDecreasing}
 use Rattle.std.specs.Cmp.Lexicographic.{slice_cmp}
 use Rattle.std.proofs.lemmas.Bool.{cases_lt, false≢true}
 use Rattle.std.proofs.lemmas.Bool.Decides.{Decides-eqb, nat_tests}
-use Rattle.std.proofs.lemmas.Cmp.{on_total, then_total, nat_cmp_total, nat_list_cmp_total, tied_itself}
+use Rattle.std.proofs.lemmas.Cmp.{nat_list_cmp_total, tied_itself}
 use Rattle.std.proofs.lemmas.List.{get_or-map, length-map}
 use Rattle.std.proofs.lemmas.List.Sorted.{sorted_far, ranks_by}
 use Rattle.std.proofs.lemmas.Map.Keys.{IsDistinct-IsPermutation}
@@ -21,13 +20,11 @@ use Rattle.cox_reflect.proofs.NormalForm.{normal_form-descent}
 use Rattle.cox_reflect.proofs.ShortLexFirst.{IsBefore, before_cases, before-shortlex_cmp}
 use Rattle.cox_context.specs.Closed.{IsClosed}
 use Rattle.cox_context.specs.Numbers.{word_at}
+use Rattle.cox_context.proofs.RisingMembers.{shortlex_total}
 use Rattle.cox_context.proofs.Shifting.{element-at, first-member}
 use Rattle.cox_replies.specs.Putting.{words_at}
 
 -- ---- sorted lists
-
-pub shortlex_total : IsTotalOrder shortlex_cmp
-shortlex_total = then_total (on_total length nat_cmp_total) nat_list_cmp_total
 
 -- of two words neither equal nor the second before the first, the first comes before
 pub before-not_less : (v w : List ℕ) → v ≢ w → is_lt (shortlex_cmp w v) ≡ false → shortlex_cmp v w ≡ Less
@@ -55,16 +52,14 @@ words-rising members numbers rising i j less within =
     rw (get_or-map (λ k. word_at members k) numbers i 0 [] (omega (arith, less, l)), get_or-map (λ k. word_at members k) numbers j 0 [] l)
     (rising i j 0 less l)
 
--- words that each come before the next rise
-pub next-rising : (members : List (List ℕ))
-    → ((k : ℕ) → k + 1 < length members → shortlex_cmp (word_at members k) (word_at members (k + 1)) ≡ Less) → IsRising members
-next-rising members next i j less within = go (j - i - 1) j (omega (arith, less)) within
-  where
-    go : (m j : ℕ) → j ≡ i + m + 1 → j < length members → shortlex_cmp (word_at members i) (word_at members j) ≡ Less
-    go zero j e l = let at : j ≡ i + 1 = omega (arith, e) in rw at (next i (omega (arith, l, e)))
-    go (suc m) j e l = let at : j ≡ i + m + 1 + 1 = omega (arith, e) in
-        shortlex_total.trans (word_at members i) (word_at members (i + m + 1)) (word_at members j)
-        (go m (i + m + 1) refl (omega (arith, l, e))) (rw at (next (i + m + 1) (omega (arith, l, e))))
+-- where the words are in order, so are those with rising numbers
+pub numbers-rising : (members : List (List ℕ)) → IsRising members → (numbers : List ℕ) → All (λ x. x < length members) numbers
+    → AllPairs (λ x y. x ≢ y) numbers → IsNonDecreasing numbers
+    → AllPairs (λ x y. shortlex_cmp (word_at members x) (word_at members y) ≡ Less) numbers
+numbers-rising members rising numbers within distinct sorted i j d less l =
+    let up : get_or numbers i d ≤ get_or numbers j d = sorted i j d (omega (arith, less)) l in
+    let apart : get_or numbers i d ≡ get_or numbers j d → ⊥ = distinct i j d less l in
+    rising (get_or numbers i d) (get_or numbers j d) (omega (arith, up, apart)) (within j d l)
 
 -- ---- distinct numbers
 

@@ -35,7 +35,6 @@ pub use certificates::{listed_below, put_cert_of};
 pub use graphs::put_group_of;
 pub use intervals::{interval_of, put_betti, put_coatoms, put_interval};
 pub use modules::put_module_of;
-pub use order::is_in_order;
 pub use polynomials::put_rpol;
 pub use rows::{put_entry_of, put_row_of};
 pub use unanswered::{Unanswered, unrefused};

@@ -1,5 +1,5 @@
 //! The ShortLex order of members: their numbers need not follow it, but what is printed does.
-ghost use Rattle.std.specs.Prelude.{◌≡◌, ◌≢◌, ◌↔◌, ◌<◌, length, All, IsTrue};
+ghost use Rattle.std.specs.Prelude.{◌≡◌, ◌≢◌, ◌<◌, length, All};
 ghost use Rattle.std.specs.List.{AllPairs};
 ghost use Rattle.std.specs.List.Sorted.{IsPermutation};
 ghost use Rattle.std.specs.Ordering.{nat_cmp};
@@ -13,7 +13,7 @@ use cox_context::Context;
 use cox_klstep::Descent;
 use std::cmp::Ordering;
 
-/// Puts the numbers of distinct members into the ShortLex order of the members.
+/// Puts the numbers of distinct members into the ShortLex order of the members. Where the members are in that order, no words are compared.
 pub fn put_in_order(context: &Context, numbers: &mut Vec<u32>)
     requires members { All (λ x. x < length context.now.members) numbers.old.items }
     requires distinct { AllPairs (λ x y. x ≢ y) numbers.old.items }
@@ -21,19 +21,11 @@ pub fn put_in_order(context: &Context, numbers: &mut Vec<u32>)
     ensures order { IsRising (words_at context.now.members numbers.new.items) }
 {
     prove!(context.len() > 0);
-    numbers.sort_unstable_by(|&i, &j| compare(context, i, j));
-}
-
-/// Whether the members stand in ShortLex order.
-pub fn is_in_order(context: &Context) -> bool
-    ensures { IsTrue result ↔ IsRising context.now.members }
-{
-    for i in 1..context.len() {
-        if compare(context, i - 1, i) != Ordering::Less {
-            return false;
-        }
+    if context.is_in_order() {
+        numbers.sort_unstable();
+        return;
     }
-    true
+    numbers.sort_unstable_by(|&i, &j| compare(context, i, j));
 }
 
 /// The ShortLex order of two members by their numbers. A number of no member is taken as that of the identity.

@@ -1,8 +1,9 @@
 //! A row of Kazhdan-Lusztig polynomials while it is made: what it is put together from, whatever the recursion is that gives P(x,w).
 //!
-//! For a member w a `RowBuilder` is given the polynomial of each extremal x up to it, one after another, or is told that x is not below w. It keeps each polynomial once, and mu(x,w), and notes where a coefficient is above the limit.
-//! At the end it gives the row of w, which is proved to be that, or the first coefficient or value of mu that is beyond its limit. The
-//! crate stands on rows and contexts, and adds no polynomials up.
+//! For a member w a `RowBuilder` is given the polynomial of each extremal x up to it, one after another, or is told that x is not below w.
+//! It keeps each polynomial once, and mu(x,w), and notes where a coefficient is above the limit. At the end it gives the row of w, which
+//! is proved to be that, or the first coefficient or value of mu that is beyond its limit. The crate stands on rows and contexts, and adds
+//! no polynomials up.
 //!
 //! - `target`: the member w, its descents, and the shifts sw and ws that are shorter
 //! - `builder`: the row that is being made

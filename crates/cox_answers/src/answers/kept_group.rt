@@ -20,7 +20,7 @@ use cox_command::Refusal;
 use cox_context::{Context, ContextFault};
 use cox_minroots::RootTable;
 use cox_options::Options;
-use cox_replies::{Unanswered, is_in_order};
+use cox_replies::Unanswered;
 use cox_rows::Rows;
 use std::alloc::{AllocError, Global};
 
@@ -112,7 +112,7 @@ fn is_list_of_group(context: &Context) -> bool
     ensures { IsTrue result → IsListOf (IsElement (integer_matrix context.now.matrix)) context.now.members }
 {
     prove!(context.len() > 0);
-    covers_group(context) && is_in_order(context)
+    covers_group(context) && context.is_in_order()
 }
 
 /// Whether each left shift of each member is a member. Then all elements of the group are members.

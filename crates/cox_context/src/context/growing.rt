@@ -29,8 +29,8 @@ impl Context {
     /// `Size` where there are more than `limit` members then. After a fault the context is unchanged. In A 3 the interval of `12` has four
     /// elements; with that of `21` there is a fifth, with the number 4.
     ///
-    /// The tables grow in place. Each new member takes time in proportion to the rank and to the square of its length; the other members
-    /// are not gone through, but after a fault.
+    /// The tables grow in place, each new member in time proportional to the rank. For each letter of w the elements below an end of its
+    /// normal form are gone through; the other members are not, but for a mark that each gets, and after a fault.
     pub fn extend(&mut self, group: &RootTable, w: &Word, limit: u32) -> Result<(), ContextFault>
         requires matrix { group.now ≡ self.old.matrix }
         requires letters { IsWord group.now.rank w.now.items }
@@ -74,12 +74,14 @@ impl Context {
     {
         let _letters = form.len();
         let first = self.len();
-        match append_below(self, form, limit) {
-            Ok(i) => Ok(i),
-            Err(fault) => {
-                self.cut_back(first);
-                Err(fault)
-            }
+        let alloc = *self.listing.left.allocator();
+        if let Err(fault) = append_below(alloc, self, form, limit) {
+            self.cut_back(first);
+            return Err(fault);
+        }
+        match self.number(form) {
+            Some(i) => Ok(i),
+            None => unreachable!(),
         }
     }
 

@@ -1,96 +1,57 @@
 -- One letter more.
-use Rattle.std.proofs.Common.{rules, ◌≡◌, ℕ, ◌<◌, ◌-◌, ◌+◌, ◌∷◌, List, length, drop, slice_index, get_or, arith, refl, ◌∙◌, ap, Some}
+use Rattle.std.proofs.Common.{rules, ◌≡◌, ◌<◌, ◌-◌, ◌+◌, [], length, drop, arith, refl, ◌∙◌}
 use Rattle.std.proofs.lemmas.List.{drop_all}
 use Rattle.std.specs.Prelude.{IfErr}
 use Rattle.cox_base.specs.IntegerMatrix.{integer_matrix}
-use Rattle.cox_base.specs.ShortLex.{normal_form}
-use Rattle.cox_base.specs.Bruhat.{IsBelow}
 use Rattle.cox_context.specs.FaultMeaning.{IsOverfull}
-use Rattle.cox_context.specs.Numbering.{IsNumberOf}
-use Rattle.cox_context.specs.Numbers.{word_at}
-use Rattle.cox_context.specs.Spread.{AreAppended}
+use Rattle.cox_context.specs.Spread.{listed_words, AreAppended, AreFound}
 use Rattle.cox_context.specs.Union.{IsInUnion}
-use Rattle.cox_context.proofs.AppendedEnds.{end-start, end-form, end-short, end-below, appended-none, appended-trans, appended-more}
-use Rattle.cox_context.proofs.AppendedEnds.{appended-union}
-use Rattle.cox_context.proofs.UnionSizes.{below-end, overfull-below}
+use Rattle.cox_context.proofs.AppendedEnds.{end-longer, appended-none, appended-trans, appended-more, appended-union}
+use Rattle.cox_context.proofs.Spreading.{found-identity}
+use Rattle.cox_context.proofs.UnionSizes.{overfull-end}
 use Rattle.cox_context.proofs.appending.append_below.Goals as goal
 
 pub loop-done-init : goal.loop-done-init
 loop-done-init c =
     let A = integer_matrix c.args.context.now.matrix
     in let top = c.args.top.now.items
+    in let none : drop (length top - 0) top ≡ [] = drop_all (length top - 0) top (omega arith)
     in record {
       matrix = refl;
-      appended = appended-none A top c.args.context.now.members;
+      appended = appended-none A (drop (length top - 0) top) c.args.context.now.members;
       few = c.requires.room;
-      number = end-start A c.len-count.ensures.admissible c.args.context.now.members c.len-count.ensures.closed
-          (drop (length top - 0) top) (drop_all (length top - 0) top (omega arith));
+      marked = c.in-Ok.ensures.marked;
+      found = rw (none, c.in-Ok.ensures.found) (found-identity A c.len-count.ensures.admissible);
     }
 
-pub append_shift-requires-clause-short : goal.append_shift-requires-clause-short
-append_shift-requires-clause-short c =
-    let A = integer_matrix c.args.context.now.matrix
-    in let g = c.len-count.ensures.admissible
-    in let top = c.args.top.now.items
-    in let old = c.args.context.now.members
-    in let mid = c.loop-done.context.members
-    in let h = c.loop-done.invariant
-    in let k = length top - (c.loop-done.done + 1)
-    in let less : k < length top = omega (arith, c.len-letters.ensures.value, c.loop-done-test.true)
-    in let next : length top - c.loop-done.done ≡ k + 1 = omega (arith, c.len-letters.ensures.value, c.loop-done-test.true)
-    in let number : word_at mid c.loop-done.at ≡ normal_form A (drop (k + 1) top) = rw next at h.number.1
-    in end-short A g top k less (word_at mid c.loop-done.at) number c.requires.top.short
-
-pub returns-in_err-at-clause-refused : goal.returns-in_err-at-clause-refused
-returns-in_err-at-clause-refused c =
-    let A = integer_matrix c.args.context.now.matrix
-    in let g = c.len-count.ensures.admissible
-    in let top = c.args.top.now.items
-    in let old = c.args.context.now.members
-    in let mid = c.loop-done.context.members
-    in let h = c.loop-done.invariant
-    in let k = length top - (c.loop-done.done + 1)
-    in let less : k < length top = omega (arith, c.len-letters.ensures.value, c.loop-done-test.true)
-    in let next : length top - c.loop-done.done ≡ k + 1 = omega (arith, c.len-letters.ensures.value, c.loop-done-test.true)
-    in let number : word_at mid c.loop-done.at ≡ normal_form A (drop (k + 1) top) = rw next at h.number.1
-    in let place : c.len-letters.result - 1 - c.loop-done.done ≡ k = omega (arith, c.len-letters.ensures.value)
-    in let letter : get_or c.deref.result.now (c.len-letters.result - 1 - c.loop-done.done) 0 ≡ slice_index top k
-    = ap (λ (letters : List ℕ). get_or letters (c.len-letters.result - 1 - c.loop-done.done) 0) c.deref.ensures.0
-    ∙ ap (slice_index top) place
-    in let shifted = slice_index top k ∷ word_at mid c.loop-done.at
-    in let below : (word : List ℕ) → IsBelow A word shifted → IsBelow A word top
-    = λ word b. below-end A g top c.requires.top.reduced k word (end-below A g top k less (word_at mid c.loop-done.at) number word b)
-    in let told : IfErr c.from_residual.result (IsOverfull (IsInUnion (integer_matrix c.loop-done.context.matrix)
-    (get_or c.deref.result.now (c.len-letters.result - 1 - c.loop-done.done) 0 ∷ word_at mid c.loop-done.at) mid) c.args.limit) = search rules
-    in overfull-below A g top shifted old mid h.appended below c.args.limit c.from_residual.result (rw (h.matrix, letter) at told)
+pub step-requires-clause-found : goal.step-requires-clause-found
+step-requires-clause-found c =
+    let e : c.len-letters.result - 1 - c.loop-done.done + 1 ≡ length c.args.top.now.items - c.loop-done.done
+    = omega (arith, c.len-letters.ensures.value, c.loop-done-test.true)
+    in rw (e, c.loop-done.invariant.matrix) c.loop-done.invariant.found
 
 pub loop-done-preserved : goal.loop-done-preserved
 loop-done-preserved c =
-    let A = integer_matrix c.args.context.now.matrix
-    in let g = c.len-count.ensures.admissible
+    let M = c.args.context.now.matrix
+    in let A = integer_matrix M
     in let top = c.args.top.now.items
-    in let old = c.args.context.now.members
-    in let mid = c.loop-done.context.members
     in let h = c.loop-done.invariant
-    in let k = length top - (c.loop-done.done + 1)
-    in let less : k < length top = omega (arith, c.len-letters.ensures.value, c.loop-done-test.true)
-    in let next : length top - c.loop-done.done ≡ k + 1 = omega (arith, c.len-letters.ensures.value, c.loop-done-test.true)
-    in let number : word_at mid c.loop-done.at ≡ normal_form A (drop (k + 1) top) = rw next at h.number.1
-    in let place : c.len-letters.result - 1 - c.loop-done.done ≡ k = omega (arith, c.len-letters.ensures.value)
-    in let letter : get_or c.deref.result.now (c.len-letters.result - 1 - c.loop-done.done) 0 ≡ slice_index top k
-    = ap (λ (letters : List ℕ). get_or letters (c.len-letters.result - 1 - c.loop-done.done) 0) c.deref.ensures.0
-    ∙ ap (slice_index top) place
-    in let shifted = slice_index top k ∷ word_at mid c.loop-done.at
-    in let below : (word : List ℕ) → IsBelow A word shifted → IsBelow A word top
-    = λ word b. below-end A g top c.requires.top.reduced k word (end-below A g top k less (word_at mid c.loop-done.at) number word b)
-    in let new = c.append_shift.new.context.members
-    in let more : AreAppended A shifted mid new = rw (h.matrix, letter) at c.append_shift.ensures.appended
-    in let there : IsNumberOf new (normal_form A shifted) (Some c.in_ok-at.at) = rw (h.matrix, letter) at c.in_ok-at.ensures.number
+    in let at = length top - (c.loop-done.done + 1)
+    in let less : at < length top = omega (arith, c.len-letters.ensures.value, c.loop-done-test.true)
+    in let e : c.len-letters.result - 1 - c.loop-done.done ≡ length top - (c.loop-done.done + 1)
+    = omega (arith, c.len-letters.ensures.value)
+    in let f : length top - c.loop-done.done ≡ at + 1 = omega (arith, c.len-letters.ensures.value, c.loop-done-test.true)
+    in let before : AreAppended A (drop (at + 1) top) c.args.context.now.members c.loop-done.context.members = rw f at h.appended
+    in let step : AreAppended A (drop at top) c.loop-done.context.members c.step.new.context.members
+    = rw (h.matrix, e) at c.step.ensures.appended
     in record {
-      matrix = c.append_shift.ensures.matrix ∙ h.matrix;
-      appended = appended-trans A top old mid new h.appended (appended-more A shifted top mid new below more);
-      few = c.append_shift.ensures.few;
-      number = rw (end-form A g top k less (word_at mid c.loop-done.at) number) at there;
+      matrix = c.step.ensures.matrix ∙ h.matrix;
+      appended = appended-trans A (drop at top) c.args.context.now.members c.loop-done.context.members c.step.new.context.members
+          (appended-more A (drop (at + 1) top) (drop at top) c.args.context.now.members c.loop-done.context.members
+          (end-longer M c.len-count.ensures.admissible top c.requires.top at less) before) step;
+      few = c.step.ensures.few;
+      marked = c.in_ok-step.ensures.marked;
+      found = rw (h.matrix, e) at c.in_ok-step.ensures.found;
     }
 
 pub returns-clause-members : goal.returns-clause-members
@@ -98,8 +59,19 @@ returns-clause-members c =
     let A = integer_matrix c.args.context.now.matrix
     in let top = c.args.top.now.items
     in let h = c.loop-done.invariant
-    in let mid = c.loop-done.context.members
     in let e : length top - c.loop-done.done ≡ 0 = omega (arith, c.len-letters.ensures.value, c.loop-done-test.false)
-    in let number : IsNumberOf mid (normal_form A top) (Some c.loop-done.at) = rw e at h.number
-    in appended-union A c.len-count.ensures.admissible c.args.context.now.members mid (rw h.matrix at c.len-count-2.ensures.closed) top
-    h.appended c.loop-done.at number
+    in let appended : AreAppended A top c.args.context.now.members c.loop-done.context.members = rw e at h.appended
+    in let found : AreFound A top (listed_words c.loop-done.context.members c.loop-done.found.numbers.items) = rw e at h.found
+    in appended-union A c.len-count.ensures.admissible c.args.context.now.members c.loop-done.context.members
+    (rw h.matrix at c.len-count-2.ensures.closed) top appended c.loop-done.found.marks.items c.loop-done.found.numbers.items h.marked found
+
+pub returns-in_err-step-clause-refused : goal.returns-in_err-step-clause-refused
+returns-in_err-step-clause-refused c =
+    let A = integer_matrix c.args.context.now.matrix
+    in let top = c.args.top.now.items
+    in let h = c.loop-done.invariant
+    in let at = c.len-letters.result - 1 - c.loop-done.done
+    in let told : IfErr c.from_residual.result (IsOverfull (IsInUnion (integer_matrix c.loop-done.context.matrix) (drop at top)
+    c.loop-done.context.members) c.args.limit) = search rules
+    in overfull-end A c.len-count.ensures.admissible top c.requires.top.reduced at (length top - c.loop-done.done)
+    c.args.context.now.members c.loop-done.context.members h.appended c.args.limit c.from_residual.result (rw h.matrix at told)

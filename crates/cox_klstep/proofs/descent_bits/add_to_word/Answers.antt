@@ -15,7 +15,9 @@ returns-clause-added c =
     in bits-put e c.args.side c.args.s c.args.from _ (c.args.from / 64) c.with_members.result words
     (bits-same e c.args.side c.args.s c.args.from c.args.words.now.items words c.requires.words c.make_room.ensures.longer
     c.make_room.ensures.same) refl c.in_ok-make_room.ensures.room c.word_end-end.ensures.same
-    (rw (get_or_read words _ _ c.in_ok-make_room.ensures.room c.index.ensures 0) at c.with_members.ensures.before) c.with_members.ensures.members
+    (rw (get_or_read words _ _ c.in_ok-make_room.ensures.room c.index.ensures 0) at c.with_members.ensures.before)
+    c.with_members.ensures.members
 
 pub returns-clause-kept : goal.returns-clause-kept
-returns-clause-kept c = bits-fewer c.args.ctx.now c.args.side c.args.s c.args.from _ _ (omega (arith, c.word_end-end.ensures.ahead)) (returns-clause-added c)
+returns-clause-kept c =
+    bits-fewer c.args.ctx.now c.args.side c.args.s c.args.from _ _ (omega (arith, c.word_end-end.ensures.ahead)) (returns-clause-added c)

@@ -7,7 +7,8 @@ pub loop-x-preserved : goal.loop-x-preserved
 loop-x-preserved c =
     let was = c.loop-x.invariant
     in record {
-      before = λ j l. c.with_bit-word.ensures.others j (omega (arith, l)) (λ e. omega (arith, e, l, c.requires.same, c.loop-x-test.true, c.loop-x.auto.x))
+      before = λ j l. c.with_bit-word.ensures.others j (omega (arith, l))
+          (λ e. omega (arith, e, l, c.requires.same, c.loop-x-test.true, c.loop-x.auto.x))
           ∙ was.before j l;
       members = λ y from l. ⊎_elim
           (λ (old : y < c.loop-x.x). rw (c.with_bit-word.ensures.others (y % 64) (omega arith)

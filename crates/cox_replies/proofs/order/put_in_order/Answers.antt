@@ -2,12 +2,22 @@
 use Rattle.std.proofs.Common.{◌≡◌, ◌<◌, length, is_lt, rules}
 use Rattle.std.specs.List.Sorted.{IsSortedByKey}
 use Rattle.std.proofs.lemmas.Fn.{always_returns_same}
-use Rattle.std.proofs.lemmas.List.Sorted.{All-permutation, ranks_by}
+use Rattle.std.proofs.lemmas.List.Sorted.{All-permutation, ranks_by, IsNonDecreasingBy-from_sort}
 use Rattle.cox_base.specs.IntegerMatrix.{integer_matrix}
 use Rattle.cox_base.specs.ShortLex.{shortlex_cmp}
 use Rattle.cox_context.specs.Numbers.{word_at}
-use Rattle.cox_replies.proofs.OrderOfWords.{shortlex_total, sorted-rising, words-rising, differ-words, distinct-permuted}
+use Rattle.cox_context.proofs.RisingMembers.{shortlex_total}
+use Rattle.cox_replies.proofs.OrderOfWords.{sorted-rising, words-rising, numbers-rising, differ-words, distinct-permuted}
 use Rattle.cox_replies.proofs.order.put_in_order.Goals as goal
+
+pub returns-then-is_in_order-clause-order : goal.returns-then-is_in_order-clause-order
+returns-then-is_in_order-clause-order c =
+    let e = c.args.context.now in
+    let new = c.sort_unstable.new.self.items in
+    let moved = c.sort_unstable.ensures.permutation in
+    words-rising e.members new (numbers-rising e.members (c.is_in_order.ensures.0 c.if-is_in_order.true) new
+    (All-permutation (λ x. x < length e.members) _ new moved c.requires.members) (distinct-permuted _ new moved c.requires.distinct)
+    (IsNonDecreasingBy-from_sort (λ x. x) new c.sort_unstable.ensures.sorted))
 
 pub returns-clause-order : goal.returns-clause-order
 returns-clause-order c =

@@ -4,6 +4,7 @@ use Rattle.cox_base.specs.IntegerMatrix.{integer_matrix}
 use Rattle.cox_reflect.proofs.Search.{length-normal_form}
 use Rattle.cox_reflect.proofs.NormalElements.{element-word, element-length}
 use Rattle.cox_context.proofs.AppendedEnds.{kept-take, elements-back}
+use Rattle.cox_context.proofs.UnionForms.{union-top}
 use Rattle.cox_context.proofs.UnionSizes.{union-refused}
 use Rattle.cox_context.proofs.context.Context.extend_to.Goals as goal
 
@@ -35,6 +36,11 @@ returns-in-Err-clause-refused c =
     in union-refused A g form c.args.self.now.members c.len-first.ensures.closed
     (omega (arith, length-normal_form A g form, c.len-letters.ensures.value, c.len-letters.ensures.fits)) c.args.limit c.in-Err.fault
     c.in-Err.ensures.refused
+
+pub unreachable-requires : goal.unreachable-requires
+unreachable-requires c =
+    c.in-None.ensures (union-top (integer_matrix c.args.self.now.matrix) c.len-first.ensures.admissible c.args.form.now.items
+    c.requires.form c.args.self.now.members c.append_below.new.context.members (c.in_default.ensures {u = tt}).members)
 
 pub returns-in-Err-clause-kept : goal.returns-in-Err-clause-kept
 returns-in-Err-clause-kept c =

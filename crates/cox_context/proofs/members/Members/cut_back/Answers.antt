@@ -13,7 +13,8 @@ invariant_of-self c =
     in rw c.truncate.ensures.items (record {
       linked = links-take links c.args.count c.self.invariant.linked c.requires.some within;
       order = rw (words-take links c.args.count c.requires.some) (rising-take (linked_words links) c.self.inside.rising
-          c.self.invariant.order c.args.count c.min-self-inside.result c.requires.some (omega (arith, within, words-size links)) c.min-self-inside.ensures);
+          c.self.invariant.order c.args.count c.min-self-inside.result c.requires.some (omega (arith, within, words-size links))
+          c.min-self-inside.ensures);
     })
 
 pub returns : goal.returns

@@ -39,10 +39,16 @@ invariant_of-self-2 c =
     rw (← read) (c.self.invariant.linked.letters c.args.rest inside)
     in rw c.in_ok-push.ensures.items (record {
       linked = links-push c.self.inside.links.items _ c.self.invariant.linked
-          (omega (arith, c.requires.room, words-size c.self.inside.links.items, ap (λ (words : List (List ℕ)). length words) c.self.view_is))
+          (omega (
+            arith,
+            c.requires.room,
+            words-size c.self.inside.links.items,
+            ap (λ (words : List (List ℕ)). length words) c.self.view_is,
+          ))
           inside (omega (arith, letters));
       order = rw (words-push c.self.inside.links.items _ c.self.invariant.linked.some, c.self.view_is) c.rising_with-rising.ensures;
     })
 
 pub returns-clause-pushed : goal.returns-clause-pushed
-returns-clause-pushed c = rw (c.in_ok-push.ensures.items, ← c.self.view_is) (words-push c.self.inside.links.items _ c.self.invariant.linked.some)
+returns-clause-pushed c =
+    rw (c.in_ok-push.ensures.items, ← c.self.view_is) (words-push c.self.inside.links.items _ c.self.invariant.linked.some)
