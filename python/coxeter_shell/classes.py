@@ -30,7 +30,9 @@ class Classes(Base):
     """The methods of a finite group on its conjugacy classes."""
 
     def conjugacy_class(self, w: Word) -> List[Element]:
-        """The conjugacy class of w in a finite group: the list of the xwx^-1, in ShortLex order.
+        """The conjugacy class of w in a finite group: the list of the xwx^-1, in ShortLex order. It is not proved.
+
+        The package makes it of the normal forms of sxs, for the letters s and the x that it has, until there are no new ones.
 
         >>> CoxeterGroup("E", 8).conjugacy_class("1")[-1] == CoxeterGroup("E", 8).reflections()[-1]
         True

@@ -180,13 +180,19 @@ class WGraph(Drawn, Table):
         >>> list(CoxeterGroup("A", 3).W_graph().edges_across(3))
         [((2,), (2, 1, 3, 2), 1), ((1, 3), (1, 2, 3, 2, 1), 1)]
         """
+        return itertools.chain.from_iterable(self._edges_by_vertex(least))
+
+    def _edges_by_vertex(self, least):
+        """Such edges vertex by vertex: for each those to later ones."""
         elements, lengths = self._elements, list(map(len, self._elements))
         all_near, other = self._edges()
+        valued = {x for x, _ in other}
         for x, near in enumerate(all_near):
             # Longer elements stand behind shorter ones.
             first = max(x + 1, bisect.bisect_left(lengths, lengths[x] + least))
-            for y in near[bisect.bisect_left(near, first) :]:
-                yield elements[x], elements[y], other.get((x, y), 1)
+            behind = near[bisect.bisect_left(near, first) :]
+            values = [other.get((x, y), 1) for y in behind] if x in valued else itertools.repeat(1)
+            yield zip(itertools.repeat(elements[x]), map(elements.__getitem__, behind), values)
 
     def steps(self) -> Iterator[Tuple[Element, Element, int]]:
         """The directed edges that make the cells: from x to a neighbour y, with the value, where some descent of x is

@@ -43,7 +43,7 @@ class Laurent(dict):
     def _refuse(self, *_: Any, **__: Any) -> Any:
         raise AttributeError("a polynomial can't be changed")
 
-    __setitem__ = __delitem__ = __ior__ = __setattr__ = _refuse
+    __setitem__ = __delitem__ = __ior__ = __setattr__ = _refuse  # type: ignore[assignment]
     clear = pop = popitem = setdefault = update = _refuse  # type: ignore[assignment]
 
     def __reduce__(self):

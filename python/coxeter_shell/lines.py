@@ -77,16 +77,19 @@ class Lines:
         return self._at < len(self._come) or self.wait(self._out, select.POLLIN, seconds, end)
 
     def wait(self, file, event, seconds, end):
-        """Waits for so many seconds, and says whether the event is there by then. A file that was closed at its other end has it too."""
+        """Waits for so many seconds, or until the end, and says whether the event is there by then. After the end it is a Late.
+        A file that was closed at its other end has the event too."""
         if file not in self._polls:
             self._polls[file] = select.poll()
             self._polls[file].register(file, event)
-        left = seconds if end is None else min(seconds, max(end - time.monotonic(), 0))
-        if self._polls[file].poll(1000 * left):
-            return True
-        if end is not None and time.monotonic() >= end:
-            raise Late
-        return False
+        if end is None:
+            left = seconds
+        else:
+            left = min(seconds, end - time.monotonic())
+            if left <= 0:
+                # Even where more is there already: else an answer that comes fast enough would have no limit.
+                raise Late
+        return bool(self._polls[file].poll(1000 * left))
 
 
 def is_line(text):

@@ -55,6 +55,8 @@ class Schubert(Base):
         `at`: P(x, w) = 1 (Kazhdan and Lusztig 1979; Carrell and Peterson 1994). In simply laced types, A, D and E, that is whether it is
         smooth; in types B, C, F and G a rationally smooth variety may be singular, and `is_smooth` says whether it is.
 
+        The program gives the polynomial, and the package compares it with 1. That this is rational smoothness is not proved.
+
         >>> W = CoxeterGroup("A", 3)
         >>> [W.text(w) for w in W.elements() if not W.is_rationally_smooth(w)]
         ['2132', '12321']

@@ -285,9 +285,11 @@ class Cosets(unittest.TestCase):
 
     def test_wrong_letters(self):
         with CoxeterGroup("A", 3) as group:
-            for letters in ([4], "14", [0], [1.5]):
-                with self.assertRaises((ValueError, TypeError)):
+            for letters in ([4], "14", [0]):
+                with self.assertRaises(ValueError):
                     group.coset_representatives(letters)
+            with self.assertRaises(TypeError):
+                group.coset_representatives([1.5])
             with self.assertRaises(ValueError):
                 group.coset_representatives([1], side="both")
 

@@ -85,7 +85,8 @@ class Graphs(unittest.TestCase):
                 self.assertEqual(stub.Poset.call_args, unittest.mock.call(([(), (1,)], [[(1,), ()]]), cover_relations=True))
                 ring = unittest.mock.MagicMock()
                 self.assertIs(Polynomial([1, 0, 2])._polynomial_(ring), ring.return_value)
-                self.assertEqual(ring.call_args[0], ([1, 0, 2],))
+                self.assertEqual(stub.PolynomialRing.return_value.call_args[0], ([1, 0, 2],))
+                self.assertEqual(ring.call_args[0], (stub.PolynomialRing.return_value.return_value,))
             with unittest.mock.patch.dict(sys.modules, {"sage": None, "sage.all": None}):
                 for call in (Polynomial([1]).sage, group.W_graph().sage, group.cell_order().sage, group.sage):
                     with self.assertRaises(ImportError):

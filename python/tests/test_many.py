@@ -217,7 +217,6 @@ class Map(unittest.TestCase):
                 list(group.map("length", ["1"], executor=executor))
             self.assertEqual(caught.exception.status, 5)
 
-
     def test_an_executor_that_loses_results(self):
         """It asks again, and where that raises an error it never tells."""
         with fakes.Fakes() as folder:

@@ -634,18 +634,32 @@ class Late(unittest.TestCase):
         """Whatever comes first, the answer or the end of the time: there is the answer or a QuestionTimeout."""
         random.seed(8)
         late = 0
-        with CoxeterGroup("A", 4) as group:
-            group.length("1")
-            for _ in range(400):
-                with group.within(random.uniform(1e-5, 1e-3)):
+        with CoxeterGroup("A", 6) as group:
+            longest, times = group.long_element(), []
+            for _ in range(5):
+                begun = time.monotonic()
+                group.ask(group._line("interval", ("e", longest)))
+                times.append(time.monotonic() - begun)
+            for _ in range(200):
+                # A limit counts in whole milliseconds, and this answer takes several: so some limits are too short on any machine.
+                with group.within(random.uniform(1e-5, 2 * min(times))):
                     try:
-                        self.assertEqual(len(group.bruhat_interval("e", "1234321")), 68)
+                        self.assertEqual(len(group.bruhat_interval("e", longest)), 5040)
                         self.assertEqual(sum(1 for _ in group.iter_kazhdan_lusztig_basis("1234321")), 68)
                         self.assertEqual(group.jobs([["length 1"] * 20]), [[["1"]] * 20])
                     except QuestionTimeout:
                         late += 1
                 self.assertEqual(group.length("123"), 3)
         self.assertGreater(late, 10)
+
+    def test_more_that_is_there_is_late_too(self):
+        """The time is over before the whole answer is read, though its next lines are there each time."""
+        with CoxeterGroup("A", 6) as group:
+            longest = group.long_element()
+            for _ in range(20):
+                self.assertEqual(group.length("1"), 1)
+                with group.within(1e-5), self.assertRaises(QuestionTimeout):
+                    group.bruhat_interval("e", longest)
 
     def test_a_checker_that_stalls(self):
         with fakes.Fakes() as folder, CoxeterGroup("A", 2) as group:

@@ -31,7 +31,7 @@ import os, signal, sys
 from coxeter_shell import CoxeterGroup, rowfile
 path, rows = sys.argv[1], int(sys.argv[2])
 write = rowfile.RowFile.write
-def stopped(self, w, row):
+def stopped(self, w, row, origin):
     global rows
     if not rows:
         # A part of a row comes into the file, and not its end.
@@ -39,7 +39,7 @@ def stopped(self, w, row):
         self.file.flush()
         os.kill(os.getpid(), signal.SIGKILL)
     rows -= 1
-    write(self, w, row)
+    write(self, w, row, origin)
 rowfile.RowFile.write = stopped
 with CoxeterGroup("A", 3) as group:
     group.kazhdan_lusztig_table(path=path)
@@ -155,8 +155,8 @@ class Files(unittest.TestCase):
 
         real = RowFile.write
 
-        def write(file, w, row):
-            real(file, w, row)
+        def write(file, w, row, origin):
+            real(file, w, row, origin)
             lines = [it for it in self.text().splitlines()[2:] if it[0] != "#"]
             seen.append(sum(line.split(",")[0] == line.split(",")[1] for line in lines))
 
