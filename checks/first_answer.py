@@ -469,7 +469,7 @@ def up_to_waiting(ran):
 def two_at_once(base):
     """Two first runs at once: one builds, and both have a first answer."""
     here = Checkout(base)
-    here.write(here.path(b"meanwhile"), UNTIL % 2 + b"until [ -e ../../waits ]; do sleep 0.1; done\n")
+    here.write(here.path(b"meanwhile"), UNTIL % 2 + b"for it in $(seq 300); do [ -e ../../waits ] && break; sleep 0.1; done\n")
     runs = []
     for number in (1, 2):
         ran = here.begin([here.path(b"coxeter"), b"%d" % number], bufsize=0)
@@ -478,7 +478,7 @@ def two_at_once(base):
         ran.stdin = None
         runs.append(ran)
         wait_for(here.path(b"crates/building"))
-    # The build doesn't end before the other run has come to it.
+    # The build doesn't end before the other run has come to it, for half a minute.
     begins = [b"", up_to_waiting(runs[1])]
     here.write(here.path(b"waits"), b"")
     for number, (ran, begin) in enumerate(zip(runs, begins), 1):
