@@ -446,8 +446,7 @@ def killed(base):
     first = here.begin()
     wait_for(here.path(b"crates/building"))
     second = here.begin([here.path(b"launch/prove")])
-    while b"waiting" not in second.stderr.readline():
-        pass
+    up_to_waiting(second)
     for it in (second, first):
         os.kill(it.pid, signal.SIGKILL)
         say("one behind another that was killed", session(it), 0)
@@ -457,20 +456,34 @@ def killed(base):
     check("and the next", here.run(), 7, b"program of three:\ninput\n", True)
 
 
+def up_to_waiting(ran):
+    """What a run says until it waits for another. What it says then can be read too, where it was begun without a buffer."""
+    lines = []
+    for line in ran.stderr:
+        lines.append(line)
+        if b"waiting" in line:
+            break
+    return b"".join(lines)
+
+
 def two_at_once(base):
     """Two first runs at once: one builds, and both have a first answer."""
     here = Checkout(base)
-    here.write(here.path(b"meanwhile"), UNTIL % 2)
+    here.write(here.path(b"meanwhile"), UNTIL % 2 + b"for it in $(seq 300); do [ -e ../../waits ] && break; sleep 0.1; done\n")
     runs = []
     for number in (1, 2):
-        ran = here.begin([here.path(b"coxeter"), b"%d" % number])
+        ran = here.begin([here.path(b"coxeter"), b"%d" % number], bufsize=0)
         ran.stdin.write(b"input %d\n" % number)
         ran.stdin.close()
         ran.stdin = None
         runs.append(ran)
         wait_for(here.path(b"crates/building"))
-    for number, ran in enumerate(runs, 1):
+    # The build doesn't end before the other run has come to it, for half a minute.
+    begins = [b"", up_to_waiting(runs[1])]
+    here.write(here.path(b"waits"), b"")
+    for number, (ran, begin) in enumerate(zip(runs, begins), 1):
         out, said = ran.communicate()
+        said = begin + said
         answer = b"program of one:%d\ninput %d\n" % (number, number)
         say(f"run {number}", (out, ran.returncode), (answer, 7))
         say(f"the first answer of run {number}", marked(said), [b"unproved: " + it for it in answer.splitlines()])

@@ -104,9 +104,10 @@ end );
 
 #F  CoxeterShellWhyNoType( <letter>, <number> ) . . . . . why there is no such named type
 BindGlobal( "CoxeterShellWhyNoType", function( letter, number )
-    local range, last;
-    if letter in [ "H", "I" ] then
-        return Concatenation( letter, " ", String( number ), " has a label other than 2, 3, 4, 6 and infinity, and such labels are not taken" );
+    local large, range, last;
+    large := UppercaseString( letter );
+    if large in [ "H", "I" ] then
+        return Concatenation( large, " ", String( number ), " has a label other than 2, 3, 4, 6 and infinity, and such labels are not taken" );
     elif not letter in RecNames( CoxeterShellTypes ) then
         return Concatenation( "the letters are ", JoinStringsWithSeparator( Set( RecNames( CoxeterShellTypes ) ), ", " ) );
     fi;
@@ -181,6 +182,10 @@ BindGlobal( "CoxeterShellFactor", function( text )
     return words;
 end );
 
+#F  CoxeterShellIsFactor( <words> ) . . . . whether words are a letter and a number, as in a product
+BindGlobal( "CoxeterShellIsFactor", words -> Length( words ) = 2 and Length( words[1] ) = 1 and IsAlphaChar( words[1][1] ) and
+    ForAll( words[2], IsDigitChar ) );
+
 #F  CoxeterShellOfText( <text> ) . . . . . . . . . . . . . . . the group of a text
 ##
 ##  It is a type, as "B3", "B 3" and "type B 3", a product of types, as "A2xB2", or a line such as "matrix 3 3 2 4".
@@ -192,7 +197,11 @@ BindGlobal( "CoxeterShellOfText", function( text )
         return rec( name := line, line := line );
     fi;
     factors := List( SplitString( text, "x" ), CoxeterShellFactor );
-    if Length( factors ) <> Number( text, it -> it = 'x' ) + 1 or not ForAll( factors, it -> Length( it ) = 2 ) then
+    if Length( factors ) <> Number( text, it -> it = 'x' ) + 1 or not ForAll( factors, CoxeterShellIsFactor ) then
+        # It is no product, but one type, as "xA2" with letters that there are not.
+        factors := [ CoxeterShellFactor( text ) ];
+    fi;
+    if Length( factors[1] ) <> 2 then
         ErrorNoReturn( "\"", text, "\" is no group: write \"A 3\", \"A2xB2\" or \"matrix 3 3 2 4\"" );
     fi;
     return CoxeterShellOfTypes( List( factors, it -> CoxeterShellNamed( it[1], it[2] ) ) );

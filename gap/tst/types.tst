@@ -24,6 +24,9 @@ gap> [ LengthOfWord( V, "131313" ), V = CoxeterShellGroup( "type c 2" ) ];
 gap> CoxeterShellGroup( "H3" );
 Error, error 13: there is no such type: H 3 has a label other than 2, 3, 4, 6 \
 and infinity, and such labels are not taken (the line was type H 3)
+gap> CoxeterShellGroup( "h3" );
+Error, error 13: there is no such type: H 3 has a label other than 2, 3, 4, 6 \
+and infinity, and such labels are not taken (the line was type h 3)
 gap> CoxeterShellGroup( "A2xI5" );
 Error, error 13: there is no such type: I 5 has a label other than 2, 3, 4, 6 \
 and infinity, and such labels are not taken (the line was type I 5)
@@ -53,7 +56,8 @@ Error, "3A" is no group: write "A 3", "A2xB2" or "matrix 3 3 2 4"
 gap> CoxeterShellGroup( "A2x" );
 Error, "A2x" is no group: write "A 3", "A2xB2" or "matrix 3 3 2 4"
 gap> CoxeterShellGroup( "xA2" );
-Error, "xA2" is no group: write "A 3", "A2xB2" or "matrix 3 3 2 4"
+Error, error 13: there is no such type: the letters are A, B, C, D, E, F, G, a\
+, b, c, d, e, f, g (the line was type xA 2)
 gap> CoxeterShellGroup( [ "A", 3, 2 ] );
 Error, [ "A", 3, 2 ] is no type: write [ "A", 3 ], or [ "A", 3, 1 ] for the af\
 fine group
