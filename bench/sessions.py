@@ -1,7 +1,9 @@
 #!/usr/bin/env python3
 """How long sessions take, and how much memory: many questions in one run, where what is kept grows from line to line.
 
-    bench/sessions.py [--native FILE] [--workers "1,4"] [--commands] [--only TEXT] [PROGRAM [PROGRAM]]
+    bench/sessions.py [--native FILE] [--workers "1,4"] [--instructions] [--only TEXT] [PROGRAM [PROGRAM]]
+    bench/sessions.py --commands [--only TEXT] [PROGRAM [PROGRAM]]
+    bench/sessions.py --orders [--instructions] [--only TEXT] [PROGRAM [PROGRAM]]
     bench/sessions.py --write FOLDER
                         the program of this repository, if none is named; all programs run in turn
 
@@ -12,10 +14,16 @@
   that has all of their elements from the start. For that a line `cert W` comes first: W has more than 4,096 elements below it, so the line
   is refused with no row made, but the interval of W is kept. The time of a run of that line alone is taken off. `betti` and `inorder` make
   no use of what is kept.
+- With `--orders` a session asks two commands, one and the other in turn: `pol` and `invpol`, `mu` and `lcells`, `klbasis` and `betti`,
+  `cert` and `module`. Beside it the same lines are asked grouped: all of one command, then all of the other, either of them first. An
+  order is slow where it takes more than 1.2 times the best order of the same lines, and the last column names those that are.
 
 `--native FILE` names a program that answers `pol` alone, built from bench/native/questions.rs. `--workers` runs each program with these
 numbers of workers, and adds seconds of the clock. All have to write the same bytes. `--only` takes the sessions with this text in their
-names. Each figure is the least of five runs, of sixty where each program takes less than a tenth of a second, or of one where one takes
+names. `--instructions` adds millions of instructions, the native program's too: those of one run under `valgrind --tool=callgrind`, which
+no noise changes. With `--orders` they stand in the place of seconds.
+
+Each other figure is the least of five runs, of sixty where each program takes less than a tenth of a second, or of one where one takes
 more than ten seconds: seconds of processor time, and the peak of memory of the whole run (bench/measure.c, which is built by cc). `times`
 is a program's seconds divided by those of the native program, or of the first column where there is none.
 """
@@ -23,6 +31,7 @@ import argparse
 import itertools
 import os
 import random
+import re
 import subprocess
 import sys
 import tempfile
@@ -49,11 +58,14 @@ def labels_of(line):
     if letter == "E":
         del chain[0, 1], chain[1, 2]
         chain |= {(0, 2): 3, (1, 3): 3}
+    if letter == "D":
+        del chain[rank - 2, rank - 1]
+        chain |= {(rank - 3, rank - 1): 3}
     return rank, labels | chain | ({(rank - 2, rank - 1): 4} if letter == "B" else {})
 
 
 class Group:
-    """A group, by the line that sets it: B n, E n, or a matrix. An element u is known by the heights of the roots u^-1 e(t)."""
+    """A group, by the line that sets it: B n, D n, E n, or a matrix. An element u is known by the heights of the roots u^-1 e(t)."""
 
     def __init__(self, line):
         self.line = line
@@ -166,6 +178,47 @@ def commands(program):
             yield f"{name}, {command.split()[0]}", line, top, "".join(f"{it}\n" for it in asked)
 
 
+# A name, the line that sets the group, how many elements are asked for, and the two commands that are asked in turn.
+PAIRS = [
+    ("E 6", "type E 6", 200, "pol e {w}", "invpol e {w}"),
+    ("D 5", "type D 5", 400, "pol e {w}", "invpol e {w}"),
+    ("D 5", "type D 5", 12, "mu e {w}", "lcells"),
+    ("B 4", "type B 4", 40, "mu e {w}", "lcells"),
+    ("E 6", "type E 6", 60, "klbasis {w}", "betti {w}"),
+    ("affine A 3", AFFINE_A3, 60, "klbasis {w}", "betti {w}"),
+    ("D 5", "type D 5", 30, "cert {w}", "module {w}"),
+    ("B 4", "type B 4", 60, "cert {w}", "module {w}"),
+]
+# An order is slow where it takes more than this many times the best order of the same lines.
+SLOW = 1.2
+ORDERS = ["in turn", "first before", "second before"]
+
+
+def alternating(line, count, first, second):
+    """The scripts of two commands for elements at random, in each of the orders."""
+    group, chance = Group(line), random.Random(1)
+    words = [group.climb(chance.randrange(1, 17), chance) for _ in range(count)]
+    asked, also = ([f"{command.format(w=w)}\n" for w in words] for command in (first, second))
+    in_turn = [it for pair in zip(asked, also) for it in pair]
+    return ["".join([f"{line}\n", *lines]) for lines in (in_turn, asked + also, also + asked)]
+
+
+def pairs():
+    """All sessions that ask two commands: a name, and the script of each order."""
+    for name, line, count, first, second in PAIRS:
+        yield f"{name}, {first.split()[0]} and {second.split()[0]}", alternating(line, count, first, second)
+
+
+def instructions(words, script):
+    """How many million instructions a run takes, by callgrind."""
+    tool = ["valgrind", "--tool=callgrind", "--callgrind-out-file=/dev/null"]
+    ran = subprocess.run([*tool, *words], input=script.encode(), stdout=subprocess.DEVNULL, stderr=subprocess.PIPE)
+    counted = re.search(rb"Collected : (\d+)", ran.stderr)
+    if ran.returncode not in (0, 1) or not counted:
+        sys.exit(f"callgrind counts nothing for {words[0]}: {ran.stderr.decode()[-400:]}")
+    return int(counted[1]) / 1e6
+
+
 def run(measure, words, script):
     """The seconds of processor time, those of the clock, and the peak of memory in MiB of a run, in which lines may be refused."""
     start = time.perf_counter()
@@ -189,17 +242,23 @@ def print_head(titles):
 def measure_sessions(measure, given, columns, reference):
     """Prints the table of the sessions of `pol`."""
     clock = bool(given.workers)
-    heads = ["s", *["clock"] * clock, "MiB"]
-    titles = [f"{head} {name}" for name in columns for head in heads + ["times"] * (name != reference)]
+    counts = ["M instructions"] * given.instructions
+    heads = ["s", *["clock"] * clock, "MiB", *counts]
+    ratios = ["times", *["times by instructions"] * given.instructions]
+    titles = [f"{head} {name}" for name in columns for head in heads + ratios * (name != reference)]
     print_head(titles)
     for name, script in sessions():
         if given.only in name:
             compare(columns.values(), script, name)
             found = dict(zip(columns, cert.in_turn(measure, [(words, script) for words in columns.values()], run, min)))
+            counted = {it: instructions(words, script) for it, words in columns.items() if given.instructions}
             shown = []
             for column, (seconds, by_clock, peak) in found.items():
                 shown += [f"{seconds:.3f}", *[f"{by_clock:.3f}"] * clock, f"{peak:.1f}"]
-                shown += [f"{seconds / max(found[reference][0], 1e-3):.2f}"] * (column != reference)
+                shown += [f"{counted[column]:.1f}"] * given.instructions
+                if column != reference:
+                    shown += [f"{seconds / max(found[reference][0], 1e-3):.2f}"]
+                    shown += [f"{counted[column] / counted[reference]:.2f}" for _ in counts]
             print(f"| {name} | " + " | ".join(shown) + " |", flush=True)
 
 
@@ -220,12 +279,35 @@ def measure_commands(measure, given, columns):
             print(f"| {name} | " + " | ".join(shown) + " |", flush=True)
 
 
+def measure_orders(measure, given, columns):
+    """Prints the table of the sessions that ask two commands: each order's seconds, or millions of instructions, divided by the least of
+    them."""
+    unit = "M instructions" if given.instructions else "s"
+    print_head([f"{head} {name}" for name in columns for head in (*[f"{unit} {it}" for it in ORDERS], "times the best", "slow")])
+    for name, scripts in pairs():
+        if given.only in name:
+            for script in scripts:
+                compare(columns.values(), script, name)
+            shown = []
+            for words in columns.values():
+                if given.instructions:
+                    found = [instructions(words, script) for script in scripts]
+                else:
+                    found = [seconds for seconds, *_ in cert.in_turn(measure, [(words, script) for script in scripts], run, min)]
+                best = max(min(found), 1e-3)
+                slow = [order for order, it in zip(ORDERS, found) if it > SLOW * best]
+                shown += [*[f"{it:.3f}" for it in found], " ".join(f"{it / best:.2f}" for it in found), " and ".join(slow) or "none"]
+            print(f"| {name} | " + " | ".join(shown) + " |", flush=True)
+
+
 def main():
     """Writes the sessions, or prints a table."""
     parser = argparse.ArgumentParser(description=__doc__.splitlines()[0])
     parser.add_argument("--native")
     parser.add_argument("--workers", default="")
     parser.add_argument("--commands", action="store_true")
+    parser.add_argument("--orders", action="store_true")
+    parser.add_argument("--instructions", action="store_true")
     parser.add_argument("--only", default="")
     parser.add_argument("--write")
     parser.add_argument("programs", nargs="*")
@@ -245,6 +327,8 @@ def main():
         measure = cert.built_measure(folder)
         if given.commands:
             measure_commands(measure, given, columns)
+        elif given.orders:
+            measure_orders(measure, given, columns)
         else:
             columns |= {"native": [os.path.abspath(given.native)]} if given.native else {}
             measure_sessions(measure, given, columns, "native" if given.native else next(iter(columns)))
