@@ -14,6 +14,7 @@ pub mod RunContract
 pub mod UnhinderedRuns
 pub mod LimitedRuns
 pub mod RowsFromStore
+pub mod MovedRows
 pub mod SameAnswers
 pub mod Due
 pub mod SaidReplies
