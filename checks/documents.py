@@ -39,7 +39,7 @@ MOST_README = 200
 MOST_LINES, MOST_WIDE = 400, 140
 # The files of the crates that may have more lines.
 LONG = {"PassStates.antt"}
-DOCUMENTS = ["README.md", "gap/README.md", "gap/doc/CoxeterShell.md", "python/README.md"]
+DOCUMENTS = ["README.md", "CONTRIBUTING.md", "gap/NOTES.md", "gap/doc/CoxeterShell.md", "python/NOTES.md"]
 DOCUMENTS = [name for name in DOCUMENTS if os.path.exists(os.path.join(TOP, name))]
 DOCUMENTS += sorted(
     "docs/" + name for name in os.listdir(os.path.join(TOP, "docs")) if name.endswith(".md")
@@ -48,7 +48,7 @@ ARCHITECTURE, DEFINITIONS = "docs/ARCHITECTURE.md", "docs/DEFINITIONS.md"
 # Documents in which each name in backticks is one of the tree.
 OF_THE_TREE = [
     "docs/" + name
-    for name in ("ARCHITECTURE.md", "CLAIMS.md", "DEFINITIONS.md", "DEVELOPING.md", "PROVED.md")
+    for name in ("ARCHITECTURE.md", "DEFINITIONS.md", "DEVELOPING.md", "PROVED.md")
 ]
 # Words of the toolchain and of shells that such a document may name.
 FOREIGN = {"antt", "perf", "env", "args"}
@@ -69,12 +69,12 @@ SAID = [
     ("docs/MANUAL.md", "A word has at most {} letters", "cox_base", "MAX_LETTERS"),
     ("docs/MANUAL.md", "A **number** is 1 to {} decimal digits", "cox_tokens", "MAX_DIGITS"),
     (
-        "docs/COXCHECK.md",
+        "docs/MANUAL.md",
         "| coefficients | {} in absolute value |",
         "cox_certtext",
         "MAX_CHECKED_COEFFICIENT",
     ),
-    ("docs/COXCHECK.md", "| bytes of the input | {} |", "cox_outside", "INPUT_LIMIT"),
+    ("docs/MANUAL.md", "| bytes of the input | {} |", "cox_outside", "INPUT_LIMIT"),
     ("docs/PROVED.md", "At status 6 the same of the first {} bytes", "cox_outside", "INPUT_LIMIT"),
     ("docs/PROVED.md", "fewer than {} bytes were read beyond", "cox_outside", "CHUNK_SIZE"),
     ("docs/PROVED.md", "by its normal form of at most {} letters", "cox_certtext", "MAX_DEGREE"),
@@ -86,8 +86,8 @@ SAID = [
     ("docs/DEFINITIONS.md", "`--workers` up to {}", "cox_options", "MAX_WORKERS"),
     ("docs/DECISIONS.md", "At the limit** of {} bytes", "cox_outside", "INPUT_LIMIT"),
     ("docs/DECISIONS.md", "At most {} symmetries are listed", "cox_symmetry", "MAX_SYMMETRIES"),
-    ("docs/COXCHECK.md", "| letters of the element | {} |", "cox_certtext", "MAX_DEGREE"),
-    ("docs/COXCHECK.md", "| elements below it | {} |", "cox_certtext", "MAX_LISTED"),
+    ("docs/MANUAL.md", "| letters of the element | {} |", "cox_certtext", "MAX_DEGREE"),
+    ("docs/MANUAL.md", "| elements below it | {} |", "cox_certtext", "MAX_LISTED"),
 ]
 CODE = re.compile(r"^```.*?^```$", re.M | re.S)
 
@@ -414,11 +414,9 @@ def definitions(problems, crates):
         for group in re.findall(r"\(((?:`\w+`(?:, )?)+)\)", cells[-1]) if owners else []:
             for name in spans(group):
                 problems.want(name in known, f"{DEFINITIONS}: {owners} have no law {name}")
-    # Those of the fill core and of the table of claims are listed in docs/CLAIMS.md.
-    listed = text + read("docs", "CLAIMS.md")
     for crate in crates:
         for name in laws_of(crate):
-            named = f"`{name}`" in listed or f"`laws::{name}`" in listed
+            named = f"`{name}`" in text or f"`laws::{name}`" in text
             problems.want(named, f"the law {name} of {crate} is not named")
 
 

@@ -1,5 +1,5 @@
 #!/usr/bin/env python3
-"""Runs the examples of README.md, docs/MANUAL.md and docs/COXCHECK.md, and compares what comes out.
+"""Runs the examples of README.md and docs/MANUAL.md, and compares what comes out.
 
     checks/examples.py [PROGRAM [CHECKER]]
 
@@ -14,7 +14,7 @@ import tempfile
 
 from common import Count, examples, program
 
-DOCUMENTS = ["README.md", os.path.join("docs", "MANUAL.md"), os.path.join("docs", "COXCHECK.md")]
+DOCUMENTS = ["README.md", os.path.join("docs", "MANUAL.md")]
 COMMANDS = {"coxeter": "./coxeter", "coxcheck": "./coxcheck", "sh": "sh"}
 
 

@@ -1,5 +1,5 @@
 #!/usr/bin/env python3
-"""Runs the examples for Python users in README.md and in docs/: INSTALL.md, MANUAL.md, COXCHECK.md, EXAMPLES.md; and compares what comes out.
+"""Runs the examples for Python users in README.md and in docs/: INSTALL.md, MANUAL.md, EXAMPLES.md; and compares what comes out.
 
     checks/examples_python.py [PROGRAM [CHECKER]]
 
@@ -21,7 +21,6 @@ DOCUMENTS = [
     ("README.md", ("python",)),
     ("docs/INSTALL.md", ("python",)),
     (os.path.join("docs", "MANUAL.md"), ("python",)),
-    (os.path.join("docs", "COXCHECK.md"), ("python",)),
     (os.path.join("docs", "EXAMPLES.md"), ("python", "sh")),
 ]
 
