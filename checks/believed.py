@@ -4,6 +4,7 @@
     checks/believed.py [--list] [--kit KIT] [--clause NAME] [--beyond OTHER] [FUNCTION]
     checks/believed.py [--list] CRATE::NAME        as cox_module::cell_module, or a law: cox_replies::printed_modules
     checks/believed.py --command NAME
+    checks/believed.py --commands
     checks/believed.py --write
 
 It begins with the names in the clauses of FUNCTION (`run` if none is named) in crates/cox_shell/src/top.rt, or of `check` in
@@ -16,7 +17,8 @@ out what the clauses of that function unfold to. CRATE::NAME is any function of 
 
 With `--command` it prints what is proved of one command, say `pol`: its clause of the law `commands` in crates/cox_shell/src/laws.rt. Then
 come the lines that a reader of that has to believe: of the mathematics that the answer is, of its text, and of its refusals, with the tokens
-of a line and the words that they read as, each part counted, and each line in one part alone.
+of a line and the words that they read as, each part counted, and each line in one part alone. With `--commands` it prints that of all commands together, each line once and each
+file behind those that it needs: the mathematics, the clauses of the law, the texts and the refusals.
 `--write` puts these counts into the table at the head of docs/PROVED.md, and those of `run` and `check` into docs/DEFINITIONS.md and
 README.md; checks/documents.py fails where they are others.
 
@@ -294,6 +296,55 @@ def print_command(files, name):
     print(f"\n{own} lines of what is proved, " + ", ".join(f"{count} of {part}" for part, count in zip(PARTS, counts)))
 
 
+def of_all(files):
+    """The items that the sentences of all commands need, by part and file, each in one part alone."""
+    parts, known = {part: defaultdict(set) for part in PARTS}, defaultdict(set)
+    each = [of_command(files, name)[1] for name in commands(files)]
+    for part in PARTS:
+        for path in files:
+            parts[part][path] = {item for found in each for item in found[part][path]} - known[path]
+            known[path] |= parts[part][path]
+    return parts
+
+
+def in_order(files, paths):
+    """Files, each behind those that it takes definitions from."""
+    ordered = []
+
+    def add(path):
+        if path in paths and path not in ordered:
+            for other in sorted({it for it, _ in files[path].imports.values() if it != path}):
+                add(other)
+            ordered.append(path)
+
+    for path in sorted(paths):
+        add(path)
+    return ordered
+
+
+def print_commands(files):
+    """Prints the lines of all commands, part by part and file by file."""
+    parts = of_all(files)
+    for part in PARTS:
+        paths = in_order(files, {path for path, items in parts[part].items() if items})
+        print(f"\n==== {part}: {size(parts[part])} lines")
+        for path in paths:
+            items = [item for item in files[path].all if item in parts[part][path]]
+            print(f"\n-- {place(path).replace('.', '/specs/')}.antt: {sum(len(item.lines) for item in items)} lines")
+            for item in items:
+                print("\n".join(item.comments + item.lines))
+        if part == "mathematics":
+            told = [sentence(files, name)[0] for name in commands(files)]
+            print(f"\n==== what each command is answered: {sum(map(len, told))} lines")
+            for lines in told:
+                print("\n" + "\n".join(lines))
+
+
+def size(items):
+    """How many lines the items of some files have."""
+    return sum(len(item.lines) for found in items.values() for item in found)
+
+
 # ---- what documents say
 
 
@@ -302,6 +353,7 @@ def numbers(files):
     each command."""
     of = {name: follow(files, clauses(name, None))[0] for name in ("run", "check")}
     only = follow(files, clauses("run", "run"))[0]
+    all_parts = of_all(files)
     lines = lambda reached: sum(len(item.lines) for items in reached.values() for item in items)
     beyond = {path: items - of["run"][path] for path, items in of["check"].items()}
     by_crate = lambda reached: {
@@ -325,6 +377,9 @@ def numbers(files):
         "more": lines(beyond),
         "left": left,
         "commands": {name: count_of(files, name) for name in commands(files)},
+        "parts": [size(all_parts[part]) for part in PARTS],
+        "not_of_run": sum(size({path: found - of["run"][path] for path, found in all_parts[part].items()}) for part in PARTS),
+        "words_of_std": len({name for path, name in follow(files, clauses("run", None))[1] if path.startswith("Rattle.std.")}),
     }
 
 
@@ -376,6 +431,16 @@ def told(files):
     put(path, "It unfolds to ", known["module"], " lines, of which")
     put(path, "of which ", known["module_new"], " stand in neither list")
     put(path, "All laws together unfold to ", known["laws"], " lines more")
+    put(path, "- The ", known["words_of_std"], " words of the standard library's definitions")
+    mathematics, text, refusals = known["parts"]
+    own_lines = sum(own for own, *_ in known["commands"].values())
+    path = "docs/PROVED.md"
+    put(path, "reads ", mathematics, " lines of definitions")
+    put(path, "and the ", own_lines, " lines of the law")
+    put(path, "The texts of the answers are ", text, " lines more")
+    put(path, "the refusals, with how a line is read, ", refusals, ", of which")
+    put(path, "of which ", known["not_of_run"], " are not among")
+    put(path, "not among the ", known["total"], " of the headline")
     put("README.md", "read the definitions (", known["total"], " lines for `coxeter`")
     put("README.md", "`coxeter`, ", known["check"], " for `coxcheck`")
     put("README.md", "for `coxcheck`, ", known["total"] + known["more"], " for both)")
@@ -425,6 +490,7 @@ def main():
     words.add_argument("--clause", help="follow the clause of this name alone")
     words.add_argument("--beyond", choices=STARTS, help="leave out what this function's clauses unfold to")
     words.add_argument("--command", help="print what one command's answer unfolds to")
+    words.add_argument("--commands", action="store_true", help="print what the answers of all commands unfold to, in the order to read it in")
     words.add_argument("--write", action="store_true", help="write the counts into the documents")
     words.add_argument("function", nargs="?", default="run", help="whose clauses: run, run_one, check or CRATE::NAME (default: run)")
     words = words.parse_args()
@@ -434,6 +500,8 @@ def main():
     if words.kit:
         folders.append(os.path.join(words.kit, "rattle", "clap"))
     files = specs(folders)
+    if words.commands:
+        return print_commands(files)
     if words.command:
         if words.command not in commands(files):
             sys.exit(f"no command on elements or on the whole group: {words.command}; there are {' '.join(commands(files))}")
