@@ -4,7 +4,7 @@ things, and the width of lines.
 
     checks/documents.py [--write]
 
-docs/ARCHITECTURE.md has the one table of crates. It has to have each crate of crates.txt once,
+docs/floors.svg is what checks/floors.py draws. docs/ARCHITECTURE.md has the one table of crates. It has to have each crate of crates.txt once,
 in the order and under the headings of that file, with the crates that its code names; no crate
 may stand on one below it, or list there what its files do not name. The tables of other
 documents have each crate that they are about, and none that is not there. A limit has the value
@@ -27,6 +27,7 @@ import sys
 import textwrap
 
 import believed
+import floors as picture
 import released
 from common import TOP
 
@@ -562,6 +563,7 @@ def main():
     names(problems)
     widths(problems, write)
     lengths(problems)
+    problems.want(not picture.is_stale(), "docs/floors.svg is stale: checks/floors.py --write")
     release(problems)
     sizes(problems)
     print(
