@@ -3,13 +3,14 @@
 
     checks/proofs.py
     checks/proofs.py --files CRATE ..
+    checks/proofs.py --specs CRATE ..
 
 In the section of each crate the table has each law of src/laws.rt, with the lemmas that its Answers.antt takes from the
 proof files of the crate. Each file of lemmas begins with a comment that says what it has. It prints what is wrong, and a
 last line with counts; the exit status is 1 where something is wrong.
 
 With --files it prints the files of lemmas of these crates in an order in which a file needs only those above it, each
-with what it says of itself. It needs Python 3 alone.
+with what it says of itself; with --specs the files of definitions. It needs Python 3 alone.
 """
 import os
 import re
@@ -74,6 +75,16 @@ def show_files(crate):
         print(textwrap.fill(f"- {name}: {said(files_of(crate)[name])}", 100, subsequent_indent="  ", break_on_hyphens=False))
 
 
+def show_specs(crate):
+    """Prints what each file of definitions of a crate says of itself."""
+    print(f"{crate}:")
+    folder = os.path.join(TOP, "crates", crate, "specs")
+    for name in sorted(os.listdir(folder)) if os.path.isdir(folder) else []:
+        if name.endswith(".antt") and name != "Lib.antt":
+            text = f"- {name[:-5]}: {said(os.path.join(folder, name))}"
+            print(textwrap.fill(text, 100, subsequent_indent="  ", break_on_hyphens=False))
+
+
 class Problems:
     def __init__(self):
         self.laws = self.files = self.count = 0
@@ -119,9 +130,10 @@ SECTION = re.compile(r"^## `(\w+)`\n(.*?)(?=^## |\Z)", re.M | re.S)
 
 def main():
     crates = sorted(os.listdir(os.path.join(TOP, "crates")))
-    if sys.argv[1:2] == ["--files"] and sys.argv[2:] and set(sys.argv[2:]) <= set(crates):
+    show = {"--files": show_files, "--specs": show_specs}.get(sys.argv[1] if sys.argv[1:] else "")
+    if show and sys.argv[2:] and set(sys.argv[2:]) <= set(crates):
         for crate in sys.argv[2:]:
-            show_files(crate)
+            show(crate)
         return
     if sys.argv[1:]:
         print(__doc__.strip())
