@@ -27,6 +27,8 @@ pub mod GroupSizes
 pub mod Spreading
 pub mod Appended
 pub mod AppendedEnds
+pub mod ShorterWords
+pub mod ExchangedMembers
 pub mod ListedMembers
 pub mod PushedRows
 pub mod CutTables

@@ -112,10 +112,21 @@ module _ (A : IntegerMatrix) (g : IsAdmissible A) where
   subword-drop (suc k) (s ∷ w) a = left_out (subword-drop k w a)
 
   -- what is below an end of a reduced word is below the whole
-  below-end : (top : List ℕ) → IsReduced A top → (k : ℕ) (x : List ℕ) → IsBelow A x (drop k top) → IsBelow A x top
+  pub below-end : (top : List ℕ) → IsReduced A top → (k : ℕ) (x : List ℕ) → IsBelow A x (drop k top) → IsBelow A x top
   below-end top reduced k x b =
       let u = below-subword A g b (drop k top) (same-refl A g (drop k top))
       in subword-below A g top reduced (same-refl A g top) (record { word = u.word; subword = subword-drop k top u.subword; same = u.same })
+
+  -- members on the way, and those below an element below v
+  pub overfull-below : {T : Type 0} (v u : List ℕ) (old mid : List (List ℕ)) → AreAppended A v old mid
+      → ((word : List ℕ) → IsBelow A word u → IsBelow A word v) → (limit : ℕ) (r : Result T ContextFault)
+      → IfErr r (IsOverfull (IsInUnion A u mid) limit) → IfErr r (IsOverfull (IsInUnion A v old) limit)
+  overfull-below v u old mid appended below limit r =
+      overfull-weaker (IsInUnion A u mid) (IsInUnion A v old) limit r (λ word p. record {
+        element = p.element;
+        either = ⊎_elim (λ b. inl (below word b))
+            (λ there. ⊎_elim (λ before. inr before) (λ b. inl b) (appended.below word there)) p.either;
+      })
 
   -- from an end of the word to the whole
   pub overfull-end : {T : Type 0} (top : List ℕ) → IsReduced A top → (k m : ℕ) (old mid : List (List ℕ))

@@ -1,5 +1,5 @@
 -- What is known while members are appended to a context.
-use Rattle.std.specs.Prelude.{◌≡◌, ◌⊎◌, ℕ, ◌<◌, ◌≤◌, List, [], ◌∷◌, ◌++◌, length, Contains}
+use Rattle.std.specs.Prelude.{◌≡◌, ◌⊎◌, ℕ, zero, suc, ◌<◌, ◌≤◌, List, [], ◌∷◌, ◌++◌, length, Contains}
 use Rattle.cox_base.specs.Matrix.{CoxeterMatrix, IsWord}
 use Rattle.cox_base.specs.IntegerMatrix.{integer_matrix}
 use Rattle.cox_base.specs.ShortLex.{normal_form}
@@ -16,6 +16,12 @@ pub record IsTopWord (c : CoxeterMatrix) (top : List ℕ) : Type 0 where
   pub word : IsWord c.rank top
   pub reduced : IsReduced (integer_matrix c) top
   pub short : length top ≤ MAX_LETTERS
+
+-- a word without its letter at a place, from 0
+unfoldable pub without_letter : ℕ → List ℕ → List ℕ
+without_letter k [] = []
+without_letter zero (s ∷ w) = w
+without_letter (suc k) (s ∷ w) = s ∷ without_letter k w
 
 -- s x is no member, for the member x with the number j, but each element below it is, and so it may be the next one
 pub record IsNextMember (c : CoxeterMatrix) (words : List (List ℕ)) (s j : ℕ) : Type 0 where

@@ -1,4 +1,4 @@
-//! Appends the elements below an element behind the members that are there, which keep their numbers.
+//! Appends the elements below an element by lists of what is below each end of its word: where many of its letters are left.
 //!
 //! Let w = s v with l(w) = l(v) + 1. The elements below w are those below v and the s x with x below v. So the letters of w are taken from
 //! the last one on. The members below v are listed and marked, and for each of them, in the order of the list, s x is put behind the others
@@ -32,7 +32,7 @@ pub(crate) struct Found {
 }
 
 /// Appends the elements below the element of a reduced word. After a fault some of them are there.
-pub(crate) fn append_below(
+pub(crate) fn append_by_lists(
     alloc: Global,
     context: &mut Context,
     top: &Word,

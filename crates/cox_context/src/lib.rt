@@ -12,7 +12,8 @@
 //! - `scope`: the group or the interval that is meant
 //! - `members`: the members, each by its first letter and the rest of its word
 //! - `shifts`: tables of shifts
-//! - `appending`: appends the members of an interval behind those that are there
+//! - `appending`: appends the members of an interval behind those that are there, by lists of what is below each end of a word
+//! - `exchange`: the same by strong exchange, where few letters are left
 //! - `builder`: finds the members, length by length, with their left shifts
 //! - `lower`: the shorter elements t y of a new element y
 //! - `lifting`: whether a new element is below the top
@@ -27,6 +28,7 @@ mod appending;
 mod builder;
 mod context;
 mod descents;
+mod exchange;
 mod fault;
 mod inverses;
 pub mod laws;

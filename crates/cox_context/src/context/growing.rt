@@ -7,15 +7,16 @@ ghost use Rattle.cox_base.specs.ShortLex.{normal_form};
 ghost use Rattle.cox_base.specs.Members.{IsElement};
 ghost use Rattle.cox_context.specs.Union.{IsInUnion};
 ghost use Rattle.cox_context.specs.Spread.{AreKept};
-ghost use Rattle.cox_context.specs.Appending.{IsNextMember};
+ghost use Rattle.cox_context.specs.Appending.{IsTopWord, IsNextMember};
 ghost use Rattle.cox_context.specs.Closed.{IsClosed};
 ghost use Rattle.cox_context.specs.Numbers.{word_at};
 ghost use Rattle.cox_context.specs.Numbering.{IsNumberOf};
-ghost use Rattle.cox_context.specs.FaultMeaning.{IsRefusal};
+ghost use Rattle.cox_context.specs.FaultMeaning.{IsRefusal, IsOverfull};
 
 use crate::ContextFault;
-use crate::appending::append_below;
+use crate::appending::append_by_lists;
 use crate::context::Context;
+use crate::exchange::append_by_exchange;
 use crate::inverses::cut_back_inverses;
 use crate::members::MAX_MEMBERS;
 use crate::shifts::cut_back;
@@ -23,14 +24,18 @@ use cox_base::Word;
 use cox_minroots::RootTable;
 use std::alloc::AllocError;
 
+/// Where at most this many letters of an element are left, what is below it is appended by strong exchange.
+const FEW_LETTERS: usize = 3;
+
 impl Context {
     /// Adds the elements x with x <= w behind the members that are there, which keep their numbers.
     ///
     /// `Size` where there are more than `limit` members then. After a fault the context is unchanged. In A 3 the interval of `12` has four
     /// elements; with that of `21` there is a fifth, with the number 4.
     ///
-    /// The tables grow in place, each new member in time proportional to the rank. For each letter of w the elements below an end of its
-    /// normal form are gone through; the other members are not, but for a mark that each gets, and after a fault.
+    /// The tables grow in place. Where few letters of the normal form of w are left before its longest end that is a member, each new
+    /// member takes time in proportion to the rank and to the square of its length. Else the elements below each end are gone through, and
+    /// each member gets a mark.
     pub fn extend(&mut self, group: &RootTable, w: &Word, limit: u32) -> Result<(), ContextFault>
         requires matrix { group.now ≡ self.old.matrix }
         requires letters { IsWord group.now.rank w.now.items }
@@ -74,8 +79,7 @@ impl Context {
     {
         let _letters = form.len();
         let first = self.len();
-        let alloc = *self.listing.left.allocator();
-        if let Err(fault) = append_below(alloc, self, form, limit) {
+        if let Err(fault) = self.append_below(form, limit) {
             self.cut_back(first);
             return Err(fault);
         }
@@ -83,6 +87,42 @@ impl Context {
             Some(i) => Ok(i),
             None => unreachable!(),
         }
+    }
+
+    /// Appends the elements below the element of a reduced word. After a fault some of them are there.
+    fn append_below(&mut self, top: &Word, limit: u32) -> Result<(), ContextFault>
+        requires top { IsTopWord self.old.matrix top.now.items }
+        requires limit { limit ≤ MAX_MEMBERS }
+        requires room { length self.old.members ≤ limit }
+        ensures matrix { self.new.matrix ≡ self.old.matrix }
+        ensures kept { AreKept self.old.members self.new.members }
+        ensures members { OnOk result ((word : List ℕ) → Contains self.new.members word
+            ↔ IsInUnion (integer_matrix self.old.matrix) top.now.items self.old.members word) }
+        ensures few { length self.new.members ≤ limit }
+        ensures refused { IfErr result (IsOverfull (IsInUnion (integer_matrix self.old.matrix) top.now.items self.old.members) limit) }
+    {
+        if self.letters_left(top) <= FEW_LETTERS {
+            return append_by_exchange(self, top, limit);
+        }
+        let alloc = *self.listing.left.allocator();
+        append_by_lists(alloc, self, top, limit)
+    }
+
+    /// How many letters of a reduced word are left before its longest end whose element is a member.
+    fn letters_left(&self, top: &Word) -> usize
+        requires top { IsTopWord self.now.matrix top.now.items }
+        ensures { result ≤ length top.now.items }
+    {
+        prove!(self.len() > 0);
+        let letters = top.len();
+        let mut at = 0;
+        for done in 0..letters {
+            match self.left(top[letters - 1 - done], at) {
+                Some(longer) => at = longer,
+                None => return letters - done,
+            }
+        }
+        0
     }
 
     /// Appends the member y = s x, for the member x with the number j, behind the others. After a fault all is as before.

@@ -25,7 +25,7 @@ impl Context {
     }
 
     /// The first letter of a member other than the identity, and the number of the rest.
-    pub(super) fn link(&self, i: u32) -> Link
+    pub(crate) fn link(&self, i: u32) -> Link
         requires some { 0 < i }
         requires member { i < length self.now.members }
         ensures word { word_at self.now.members i ≡ result.first ∷ word_at self.now.members result.rest }

@@ -20,12 +20,12 @@ append_below-requires-clause-top c =
 
 pub cut_back-requires-clause-closed : goal.cut_back-requires-clause-closed
 cut_back-requires-clause-closed c =
-    let first = kept-take c.args.self.now.members c.append_below.new.context.members c.append_below.ensures.kept
+    let first = kept-take c.args.self.now.members c.append_below.new.self.members c.append_below.ensures.kept
     in rw (c.append_below.ensures.matrix, c.len-first.ensures.len, first) c.len-first.ensures.closed
 
 pub returns-in-Err-clause-unchanged : goal.returns-in-Err-clause-unchanged
 returns-in-Err-clause-unchanged c =
-    elements-back c.args.self.now c.append_below.new.context c.cut_back.new.self c.append_below.ensures.matrix c.append_below.ensures.kept
+    elements-back c.args.self.now c.append_below.new.self c.cut_back.new.self c.append_below.ensures.matrix c.append_below.ensures.kept
     (rw c.len-first.ensures.len at c.cut_back.ensures)
 
 pub returns-in-Err-clause-refused : goal.returns-in-Err-clause-refused
@@ -40,10 +40,10 @@ returns-in-Err-clause-refused c =
 pub unreachable-requires : goal.unreachable-requires
 unreachable-requires c =
     c.in-None.ensures (union-top (integer_matrix c.args.self.now.matrix) c.len-first.ensures.admissible c.args.form.now.items
-    c.requires.form c.args.self.now.members c.append_below.new.context.members (c.in_default.ensures {u = tt}).members)
+    c.requires.form c.args.self.now.members c.append_below.new.self.members (c.in_default.ensures {u = tt}).members)
 
 pub returns-in-Err-clause-kept : goal.returns-in-Err-clause-kept
 returns-in-Err-clause-kept c =
-    let back = elements-back c.args.self.now c.append_below.new.context c.cut_back.new.self c.append_below.ensures.matrix
+    let back = elements-back c.args.self.now c.append_below.new.self c.cut_back.new.self c.append_below.ensures.matrix
     c.append_below.ensures.kept (rw c.len-first.ensures.len at c.cut_back.ensures)
     in rw back (record { size = omega arith; word = λ i l. refl })

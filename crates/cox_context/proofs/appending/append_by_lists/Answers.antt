@@ -9,7 +9,7 @@ use Rattle.cox_context.specs.Union.{IsInUnion}
 use Rattle.cox_context.proofs.AppendedEnds.{end-longer, appended-none, appended-trans, appended-more, appended-union}
 use Rattle.cox_context.proofs.Spreading.{found-identity}
 use Rattle.cox_context.proofs.UnionSizes.{overfull-end}
-use Rattle.cox_context.proofs.appending.append_below.Goals as goal
+use Rattle.cox_context.proofs.appending.append_by_lists.Goals as goal
 
 pub loop-done-init : goal.loop-done-init
 loop-done-init c =

@@ -2,7 +2,7 @@
 use Rattle.std.proofs.Common.{◌≡◌, ◌≤◌, ◌-◌, drop, length}
 use Rattle.cox_base.specs.IntegerMatrix.{integer_matrix}
 use Rattle.cox_context.specs.Spread.{listed_words, AreMarked, AreFound, AreAppended}
-use Rattle.cox_context.proofs.appending.append_below.Given as goal
+use Rattle.cox_context.proofs.appending.append_by_lists.Given as goal
 
 abbrev pub invariant-loop-done : goal.invariant-loop-done
 invariant-loop-done l = record {
