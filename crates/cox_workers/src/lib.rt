@@ -13,6 +13,7 @@
 //! - `read_rows`: rows that a worker reads
 //! - `worker_context`, `worker_scratch`: what a worker works at, and what it keeps from row to row
 //! - `making`: one row, and those that it is made from
+//! - `waiting`: one row that another worker has claimed
 //! - `gathering`: rows that are there already and may serve
 //! - `sharing`: one row by several workers
 //! - `settling`: one row that is wanted, made or given up
@@ -32,6 +33,7 @@ mod read_rows;
 mod schedule;
 mod settling;
 mod sharing;
+mod waiting;
 mod worker_context;
 mod worker_scratch;
 
