@@ -20,6 +20,7 @@
 //! - `heap_reserve`: memory that a worker takes before it needs it
 //! - `schedule`: all rows that are wanted, as one worker goes through them
 //! - `filling`: the same by several workers
+//! - `shorter`: the element that a row is made from first
 //! - `laws`: the law of families
 #![tactic(auto)]
 
@@ -33,11 +34,13 @@ mod read_rows;
 mod schedule;
 mod settling;
 mod sharing;
+mod shorter;
 mod waiting;
 mod worker_context;
 mod worker_scratch;
 
 pub use filling::{all_members, fill, fill_row};
 pub use missing::Missing;
+pub use shorter::shorter_member;
 pub use worker_context::WorkerContext;
 pub use worker_scratch::WorkerScratch;
