@@ -3,7 +3,7 @@ ghost use Rattle.std.specs.Prelude.{◌≡◌, ◌<◌, length};
 ghost use Rattle.cox_claims.specs.Tables.{rows_of, IsSeatOf};
 ghost use Rattle.claims_stress.specs.Jobs.{IsJobReady};
 
-use cox_claims::{Claimed, Claims, NoMemory, RowState, Seat};
+use cox_claims::{Claimed, Claims, Evidence, NoMemory, RowState, Seat};
 use std::alloc::Global;
 use std::thread;
 
@@ -12,6 +12,16 @@ use std::thread;
 pub struct Job {
     pub worker: u32,
     pub seat: Seat,
+}
+
+/// What shows that a row was made: here nothing has to be made before a row is published.
+#[derive(Drop)]
+pub struct Made {
+    pub row: u32,
+}
+
+impl Evidence for Made {
+    ghost number = { λ made. made.row };
 }
 
 /// What a worker found.
@@ -65,7 +75,7 @@ fn take(claims: &Claims, seat: &mut Seat, row: u32) -> bool
             if row % 5 == 0 {
                 claims.void(seat, row);
             } else {
-                claims.publish(seat, row);
+                claims.publish(seat, row, &Made { row });
             }
             true
         }

@@ -1,5 +1,5 @@
 -- A seat as callers see it.
-use Rattle.std.specs.Prelude.{◌≡◌, ℕ, ◌+◌, ◌-◌, ◌^◌, ◌<◌, min, true, [], Option, Some}
+use Rattle.std.specs.Prelude.{◌≡◌, ◌⊎◌, ℕ, ◌+◌, ◌-◌, ◌^◌, ◌<◌, min, true, [], Option, Some}
 use Rattle.atomic_table.specs.Seated.{TableId}
 use Rattle.cox_fill_core.specs.declared.event.RowState.{RowState}
 use Rattle.cox_claims.specs.declared.view.View.{View}
@@ -45,6 +45,10 @@ HasSeenVoid seat i = saw_void (view_of seat) i ≡ true
 
 abbrev pub HasSeenClaimed : Seat → ℕ → Type 0
 HasSeenClaimed seat i = saw_claimed (view_of seat) i ≡ true
+
+-- the seat has seen row i Published or Void
+abbrev pub HasSeenEnd : Seat → ℕ → Type 0
+HasSeenEnd seat i = HasSeen seat i ⊎ HasSeenVoid seat i
 
 -- the seat voided row i itself
 abbrev pub HasMarked : Seat → ℕ → Type 0

@@ -7,6 +7,7 @@ use Rattle.cox_fill_core.specs.declared.event.RowState.{RowState}
 use Rattle.cox_claims.specs.declared.view.View.{View}
 use Rattle.cox_claims.specs.declared.seat.Seat.{Seat}
 use Rattle.cox_claims.specs.declared.table.Claims.{Claims}
+use Rattle.cox_claims.specs.declared.table.Slept.{Slept}
 use Rattle.cox_claims.specs.Knowledge.{IsKnown}
 use Rattle.cox_claims.specs.Rule.{state_of, KeepsRule}
 use Rattle.cox_claims.specs.Seats.{table_of}
@@ -14,6 +15,10 @@ use Rattle.cox_claims.specs.Seats.{table_of}
 -- how many rows there are
 abbrev pub rows_of : Claims → ℕ
 rows_of claims = claims.rows
+
+-- the row that a thread slept on
+abbrev pub slept_on : Slept → ℕ
+slept_on slept = slept.row
 
 -- the seat sits at this table
 abbrev pub IsSeatOf : Claims → Seat → Type 0

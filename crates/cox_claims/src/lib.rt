@@ -23,7 +23,7 @@ mod view;
 pub use cox_fill_core::RowState;
 pub use seat::Seat;
 use std::alloc::AllocError;
-pub use table::{Claimed, Claims};
+pub use table::{Claimed, Claims, Evidence, Slept};
 pub use view::View;
 
 /// Out of memory.

@@ -26,6 +26,18 @@ pub enum Claimed {
     Lost(RowState),
 }
 
+/// What shows that a row was made, so that it may be published.
+pub trait Evidence {
+    // The number of the row.
+    ghost number: { Self → ℕ };
+}
+
+/// What shows that a thread slept on a row. Only a call that sleeps makes one.
+#[derive(Drop)]
+pub struct Slept {
+    row: u32,
+}
+
 // What the word of a row may be.
 const FREE: u64 = 0;
 
@@ -62,8 +74,8 @@ pub struct Claims {
 
 impl Claims {
     ghost use Rattle.cox_claims.specs.Seats.{view_of, number_of, splits_of, one_more_split, IsSameSeat, Holds, HoldsNothing, HasSeen};
-    ghost use Rattle.cox_claims.specs.Seats.{HoldsBeyond, HasSeenVoid, HasMarked, Reads};
-    ghost use Rattle.cox_claims.specs.Tables.{rows_of, IsSeatOf, Closes};
+    ghost use Rattle.cox_claims.specs.Seats.{HoldsBeyond, HasSeenVoid, HasSeenEnd, HasMarked, Reads};
+    ghost use Rattle.cox_claims.specs.Tables.{rows_of, slept_on, IsSeatOf, Closes};
 
     /// A table of this many rows, all Free, and its first seat, which has the number 0 and has seen nothing.
     ///
@@ -126,19 +138,21 @@ impl Claims {
         state_from(shared.load::<LookPlay>(&mut seat.seat, row as usize))
     }
 
-    /// Publishes a row that the seat holds, and wakes who sleeps on it.
-    pub fn publish(&self, seat: &mut Seat, row: u32)
+    /// Publishes a row that the seat holds and that was made, and wakes who sleeps on it.
+    pub fn publish<E: Evidence>(&self, seat: &mut Seat, row: u32, made: &E)
         requires own { IsSeatOf self.now seat.old }
         requires row { row < rows_of self.now }
         requires held { Holds seat.old row }
+        requires made { E.number made.now ≡ row }
         ensures seat { IsSameSeat seat.old seat.new }
         ensures splits { splits_of seat.new ≡ splits_of seat.old }
         ensures step { Publishes (view_of seat.old) row (view_of seat.new) }
         ensures seen { HasSeen seat.new row }
     {
+        let _ = made;
         let shared = &self.table.shared;
         shared.store::<PublishPlay>(&mut seat.seat, row as usize, PUBLISHED);
-        self.wake(row);
+        self.wake(seat, row);
     }
 
     /// Gives up a row that the seat holds, and wakes who sleeps on it.
@@ -153,29 +167,39 @@ impl Claims {
     {
         let shared = &self.table.shared;
         shared.store::<VoidPlay>(&mut seat.seat, row as usize, VOID);
-        self.wake(row);
+        self.wake(seat, row);
     }
 
     /// Sleeps while a row is Claimed, until it is published or given up. It may also return before. All rows that the seat holds have
-    /// greater numbers.
-    pub fn sleep_on<R: Wait>(&self, rt: &R, seat: &Seat, row: u32)
+    /// greater numbers. What it gives shows that the caller slept on this row.
+    pub fn sleep_on<R: Wait>(&self, rt: &R, seat: &Seat, row: u32) -> Slept
         requires row { row < rows_of self.now }
         requires order { HoldsBeyond seat.now row }
+        ensures { slept_on result ≡ row }
     {
         let _ = seat;
         self.sleepers.fetch_add(1, SeqCst);
         self.table.shared.park(rt, row as usize, CLAIMED as u32);
         self.sleepers.fetch_sub(1, SeqCst);
+        Slept { row }
     }
 
-    /// Wakes who sleeps on a row, after its word was changed. A wake asks the system, so it is left out where no thread sleeps on any row.
+    /// How many threads sleep on a row, or are about to, on any row.
+    pub fn sleepers(&self) -> u64 {
+        self.sleepers.load(SeqCst)
+    }
+
+    /// Wakes who sleeps on a row, after its word was changed: the seat has seen the row's end. A wake asks the system, so it is left out
+    /// where no thread sleeps on any row.
     ///
     /// No sleeper is missed. A thread that is to sleep is counted first, and sleeps only if the word still says Claimed after that. All
     /// these steps have one order: a count of 0 here was read before the thread was counted, so that the thread finds the changed word.
-    fn wake(&self, row: u32)
-        requires { row < rows_of self.now }
+    fn wake(&self, seat: &Seat, row: u32)
+        requires row { row < rows_of self.now }
+        requires ended { HasSeenEnd seat.now row }
     {
-        if self.sleepers.load(SeqCst) > 0 {
+        let _ = seat;
+        if self.sleepers() > 0 {
             self.table.shared.wake_all(row as usize);
         }
     }

@@ -11,7 +11,7 @@
 mod store;
 mod taking;
 
-pub use cox_claims::{Claimed, RowState, Seat};
+pub use cox_claims::{Claimed, RowState, Seat, Slept};
 pub use cox_rowcell::RowGuard;
 use std::alloc::AllocError;
 pub use store::RowStore;

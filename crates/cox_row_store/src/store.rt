@@ -3,7 +3,7 @@ ghost use Rattle.std.specs.Prelude.{◌≡◌, ◌≢◌, ℕ, ◌<◌, ◌≤�
 ghost use Rattle.cox_claims.specs.Knowledge.{holds, SeesAll, newcomer, Looks, TriesClaim, Publishes, Voids, parted, told, joined};
 ghost use Rattle.cox_claims.specs.Seats.{view_of, number_of, splits_of, one_more_split, IsSameSeat, Holds, HoldsNothing, HasSeen};
 ghost use Rattle.cox_claims.specs.Seats.{HoldsBeyond, HasSeenVoid, HasMarked, Reads};
-ghost use Rattle.cox_claims.specs.Tables.{rows_of, IsSeatOf};
+ghost use Rattle.cox_claims.specs.Tables.{rows_of, slept_on, IsSeatOf};
 ghost use Rattle.cox_fill_core.specs.declared.event.RowState.{RowState};
 ghost use Rattle.cox_fill_core.specs.declared.event.RowState.TheVariants.{Free};
 ghost use Rattle.cox_row.specs.RowOf.{IsRowAt};
@@ -14,12 +14,20 @@ ghost use Rattle.cox_row_store.specs.Places.{place_at, ArePlaces};
 
 use crate::NoMemory;
 use crate::taking::take_rows;
-use cox_claims::{Claimed, Claims, RowState, Seat};
+use cox_claims::{Claimed, Claims, Evidence, RowState, Seat, Slept};
 use cox_context::Context;
 use cox_row::Row;
-use cox_rowcell::{RowCell, RowGuard, Tag};
+use cox_rowcell::{Filled, RowCell, RowGuard, Tag};
 use std::alloc::Global;
 use std::sync::Wait;
+
+/// What shows that the row of a member is in its cell.
+#[derive(Drop)]
+struct RowInCell(Filled);
+
+impl Evidence for RowInCell {
+    ghost number = { λ e. e.0.member };
+}
 
 /// Rows of the members of a context, shared by any number of threads. Each is claimed, made and published by a thread, or given up.
 #[derive(Drop)]
@@ -122,8 +130,8 @@ impl RowStore {
         ensures step { Publishes (view_of seat.old) member (view_of seat.new) }
         ensures seen { HasSeen seat.new member }
     {
-        self.cell(member).fill(rt, row);
-        self.claims.publish(seat, member);
+        let filled = self.cell(member).fill(rt, row);
+        self.claims.publish(seat, member, &RowInCell(filled));
     }
 
     /// Gives up the row of a member that the seat holds by a claim. It is Void for good.
@@ -141,12 +149,13 @@ impl RowStore {
     }
 
     /// Sleeps while the row of a member is Claimed, until it is published or given up. It may also return before. All rows that the seat
-    /// holds have greater numbers.
-    pub fn sleep_on<R: Wait>(&self, rt: &R, seat: &Seat, member: u32)
+    /// holds have greater numbers. What it gives shows that the caller slept on this row.
+    pub fn sleep_on<R: Wait>(&self, rt: &R, seat: &Seat, member: u32) -> Slept
         requires member { member < length (elements_of self.now).members }
         requires order { HoldsBeyond seat.now member }
+        ensures { slept_on result ≡ member }
     {
-        self.claims.sleep_on(rt, seat, member);
+        self.claims.sleep_on(rt, seat, member)
     }
 
     /// Lends the row of a member that the seat has seen Published, until the guard is let go.

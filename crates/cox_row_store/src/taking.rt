@@ -13,7 +13,7 @@ use cox_rowcell::RowCell;
 use std::sync::Wait;
 
 /// The rows of these cells, one entry for each: its row where a look finds it Published, or none. It would wait for ever at an empty cell
-/// of a Published row. There is none: `RowStore::publish` fills the cell first.
+/// of a Published row. There is none: `RowStore::publish` fills the cell first, and publishes the claim by what shows that.
 pub(crate) fn take_rows<R: Wait>(
     rt: &R,
     claims: &Claims,

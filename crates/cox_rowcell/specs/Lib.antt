@@ -1,3 +1,4 @@
 pub mod Place
 pub mod RowFor
+pub mod InCell
 pub mod Guards

@@ -1,9 +1,12 @@
 //! A cell for the row of one member.
-ghost use Rattle.std.specs.Prelude.{◌≡◌, ◌<◌, ◌+◌, ◌-◌, ◌%◌, ◌^◌, IsTrue, IsSomeAnd, IsSome, IfSome};
+ghost use Rattle.std.specs.Prelude.{◌≡◌, ◌<◌, ◌+◌, ◌-◌, ◌%◌, ◌^◌, IsTrue, IsSomeAnd, IfSome};
 ghost use Rattle.counted_slot.specs.Counting.{readers};
+ghost use Rattle.cox_rowcell.specs.InCell.{IsRowHeld};
 ghost use Rattle.cox_rowcell.specs.RowFor.{IsRowFor};
 
-use crate::tag::{CellRow, Tag};
+use crate::filled::Filled;
+use crate::held::{Held, Vacancy};
+use crate::tag::Tag;
 use counted_slot::{Claim, Counted, FREE, MOST_READERS, ONE_READER, PRESENT, TAKEN};
 use cox_row::Row;
 use std::marker::Model;
@@ -14,7 +17,7 @@ use std::thread;
 /// A cell for the row of one member of a context. Contracts see its tag.
 #[derive(Drop)]
 pub struct RowCell {
-    slot: Counted<Option<CellRow>>,
+    slot: Counted<Held>,
 }
 
 impl Model for RowCell {
@@ -33,19 +36,29 @@ impl RowCell {
         ensures { result ≡ tag.now }
     {
         RowCell {
-            slot: Counted::new(None, tag),
+            slot: Counted::new(Held::Nothing(Vacancy::of(tag)), tag),
         }
     }
 
-    /// Puts the row of the tag into the cell. It waits while the cell is not empty, so it never returns for a cell that was filled.
-    pub fn fill<R: Wait>(&self, rt: &R, row: Row)
+    /// Puts the row of the tag into the cell, and gives what shows it. It waits while the cell is not empty, so it never returns for a cell
+    /// that was filled.
+    pub fn fill<R: Wait>(&self, rt: &R, row: Row) -> Filled
         requires { IsRowFor self.now row }
+        ensures { result ≡ self.now }
+    {
+        let claim = self.turn_to_write(rt);
+        Filled::put(self, claim, row)
+    }
+
+    /// The turn to write into the cell, once it is empty.
+    fn turn_to_write<R: Wait>(&self, rt: &R) -> Claim<'_, Held>
+        ensures turn { result.right ≡ 2 }
+        ensures tag { result.tag ≡ self.now }
     {
         for _ in rt.forever() {
             let (found, claim) = self.slot.turn(FREE, TAKEN);
             if found == FREE {
-                claim.put(Some(CellRow(row)), PRESENT);
-                return;
+                return claim;
             }
             claim.done();
             thread::yield_now();
@@ -79,7 +92,7 @@ impl RowCell {
             claim.done();
             return None;
         }
-        if claim.get().is_none() {
+        if !claim.get().is_row() {
             claim.leave();
             return None;
         }
@@ -91,8 +104,8 @@ impl RowCell {
         ensures { IsRowFor self result }
     {
         match self.slot.into_inner() {
-            Some(held) => held.0,
-            None => {
+            Held::Row(row) => row,
+            Held::Nothing(_) => {
                 for _ in rt.forever() {}
                 unreachable!()
             }
@@ -110,9 +123,9 @@ fn can_be_read(word: u64) -> bool
 
 /// Lends the row of a cell, until it is let go.
 pub struct RowGuard<'a> {
-    pub(crate) claim: Claim<'a, Option<CellRow>>,
+    pub(crate) claim: Claim<'a, Held>,
     ghost reads: { claim.right ≡ 1 },
-    ghost filled: { ∥ IsSomeAnd claim.value (λ x. IsSome x) ∥₁ },
+    ghost filled: { ∥ IsSomeAnd claim.value IsRowHeld ∥₁ },
 }
 
 impl<'a> RowGuard<'a> {
@@ -123,8 +136,8 @@ impl<'a> RowGuard<'a> {
         ensures { IsRowFor (place_of_guard self.now) result.now }
     {
         match self.claim.get() {
-            Some(held) => &held.0,
-            None => unreachable!(),
+            Held::Row(row) => row,
+            Held::Nothing(_) => unreachable!(),
         }
     }
 }

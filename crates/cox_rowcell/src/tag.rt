@@ -1,7 +1,5 @@
 //! What row a cell is for.
-use counted_slot::Fits;
 use cox_context::Context;
-use cox_row::Row;
 use std::marker::Model;
 use std::snapshot::Snapshot;
 
@@ -36,16 +34,4 @@ impl Tag {
             limit,
         }
     }
-}
-
-/// A row in a cell.
-#[derive(Drop)]
-pub(crate) struct CellRow(pub(crate) Row);
-
-impl Fits for CellRow {
-    ghost use Rattle.cox_rowcell.specs.RowFor.{IsRowFor};
-
-    type Tag = Tag;
-
-    ghost fits = { λ tag row. IsRowFor tag row.0 };
 }

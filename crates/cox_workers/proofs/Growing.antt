@@ -7,14 +7,14 @@ use Rattle.cox_context.specs.Closed.{Elements}
 use Rattle.cox_claims.specs.declared.seat.Seat.{Seat}
 use Rattle.cox_fill_core.specs.declared.event.RowState.{RowState}
 use Rattle.cox_claims.specs.Knowledge.{saw_claimed, has_published, has_voided, looked, parted, told, joined, IsKnown, SeesAll}
-use Rattle.cox_claims.specs.Seats.{view_of, HasSeen, HasSeenVoid, HasSeenClaimed}
+use Rattle.cox_claims.specs.Seats.{view_of, HasSeen, HasSeenVoid, HasSeenClaimed, HasSeenEnd}
 use Rattle.cox_row.specs.Rising.{number_at}
 use Rattle.cox_claims.proofs.RowTests.{among_either}
 use Rattle.cox_claims.specs.Rule.{how_many}
 use Rattle.cox_claims.proofs.Splits.{how_many-append}
 use Rattle.cox_klstep.specs.NeedsOf.{HasNeeds}
 use Rattle.cox_workers.specs.SeatChanges.{IsNeededAt, HasEnded, MadeOfSeen, IsSeatKept}
-use Rattle.cox_workers.specs.Filled.{HasSeenEnd, IsNeededForSome, IsSeatGrown, HasMetAll}
+use Rattle.cox_workers.specs.Filled.{IsNeededForSome, IsSeatGrown, HasMetAll}
 use Rattle.cox_workers.proofs.SeatSteps.{same_seats-refl, same_seats-trans, needs-map, made-trans}
 use Rattle.cox_claims.proofs.Views.{sees-refl, sees-trans}
 

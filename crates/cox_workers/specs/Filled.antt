@@ -3,7 +3,7 @@ use Rattle.std.specs.Prelude.{◌≡◌, ◌⊎◌, ℕ, ◌+◌, ◌<◌, List,
 use Rattle.cox_context.specs.Closed.{Elements}
 use Rattle.cox_claims.specs.declared.seat.Seat.{Seat}
 use Rattle.cox_claims.specs.Knowledge.{SeesAll, TellsSameSeats}
-use Rattle.cox_claims.specs.Seats.{view_of, IsSameSeat, HoldsNothing, HasSeen, HasSeenVoid}
+use Rattle.cox_claims.specs.Seats.{view_of, IsSameSeat, HoldsNothing, HasSeenEnd}
 use Rattle.cox_row.specs.Rising.{number_at}
 use Rattle.cox_row_store.specs.declared.store.RowStore.{RowStore}
 use Rattle.cox_row_store.specs.Stores.{elements_of, IsSeat}
@@ -12,10 +12,6 @@ use Rattle.cox_workers.specs.declared.worker_context.WorkerContext.{WorkerContex
 use Rattle.cox_workers.specs.declared.worker_scratch.WorkerScratch.{WorkerScratch}
 use Rattle.cox_workers.specs.Ready.{IsSeatWith}
 use Rattle.cox_workers.specs.SeatChanges.{IsNeededAt, HasEnded, MadeOfSeen}
-
--- the seat has seen row i Published or Void
-abbrev pub HasSeenEnd : Seat → ℕ → Type 0
-HasSeenEnd seat i = HasSeen seat i ⊎ HasSeenVoid seat i
 
 -- row j is needed for one of the rows that are wanted
 abbrev pub IsNeededForSome : Elements → List ℕ → ℕ → Type 0

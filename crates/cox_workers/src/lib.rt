@@ -13,12 +13,14 @@
 //! - `read_rows`: rows that a worker reads
 //! - `worker_context`, `worker_scratch`: what a worker works at, and what it keeps from row to row
 //! - `making`: one row, and those that it is made from
+//! - `waiting`: one row that another worker has claimed
 //! - `gathering`: rows that are there already and may serve
 //! - `sharing`: one row by several workers
 //! - `settling`: one row that is wanted, made or given up
 //! - `heap_reserve`: memory that a worker takes before it needs it
 //! - `schedule`: all rows that are wanted, as one worker goes through them
 //! - `filling`: the same by several workers
+//! - `shorter`: the element that a row is made from first
 //! - `laws`: the law of families
 #![tactic(auto)]
 
@@ -32,10 +34,13 @@ mod read_rows;
 mod schedule;
 mod settling;
 mod sharing;
+mod shorter;
+mod waiting;
 mod worker_context;
 mod worker_scratch;
 
 pub use filling::{all_members, fill, fill_row};
 pub use missing::Missing;
+pub use shorter::shorter_member;
 pub use worker_context::WorkerContext;
 pub use worker_scratch::WorkerScratch;

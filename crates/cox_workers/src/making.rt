@@ -97,29 +97,6 @@ impl<'a> WorkerContext<'a> {
         self.store.claim(seat, member)
     }
 
-    /// Waits until a row that another has claimed is Published or Void. It sleeps meanwhile.
-    pub(crate) fn wait<R: Wait>(&self, rt: &R, seat: &mut Seat, i: u32) -> Result<(), Missing>
-        requires own { IsSeat self.now.store.now seat.old }
-        requires member { i < length self.now.context.now.members }
-        requires claimed { HasSeenClaimed seat.old i }
-        requires order { HoldsBeyond seat.old i }
-        ensures own { IsSeat self.now.store.now seat.new }
-        ensures kept { IsSeatKept self.now.context.now i seat.old seat.new }
-        ensures here { OnOk result (HasSeen seat.new i × VoidsNone seat.old seat.new) }
-        ensures void { OnErr result (HasSeenVoid seat.new i) }
-        ensures missing { IfErr result (IsRowMissing self.now.context.now (limit_of self.now.store.now) i seat.old seat.new) }
-    {
-        let _len = self.context.len();
-        for _ in rt.forever() {
-            match self.look(seat, i) {
-                RowState::Published => return Ok(()),
-                RowState::Void => return Err(Missing::Void(i)),
-                _ => self.store.sleep_on(rt, seat, i),
-            }
-        }
-        unreachable!()
-    }
-
     /// The row of the member with the number i, after those that it is made from.
     #[cycle(ensure)]
     fn made<R: Threads + Wait + Sync, G: Gate>(
@@ -175,7 +152,7 @@ impl<'a> WorkerContext<'a> {
         match begin_row(self.alloc, self.context, i, rows, tables)? {
             RowStart::Done(row) => Ok(row),
             RowStart::Planned(plan) => {
-                let found = plan.find_together(rt, self.threads, self.alloc, self.context, tables);
+                let found = self.find_together(rt, self.threads, &plan, tables);
                 plan.finish(self.alloc, self.context, tables, found, steps)
             }
         }

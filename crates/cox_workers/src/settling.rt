@@ -1,6 +1,6 @@
 //! One row of a member that is wanted: it is made, or given up.
 ghost use Rattle.std.specs.Prelude.{◌<◌, length};
-ghost use Rattle.cox_claims.specs.Seats.{HoldsNothing};
+ghost use Rattle.cox_claims.specs.Seats.{HoldsNothing, HasSeenEnd};
 ghost use Rattle.cox_row_store.specs.Stores.{IsSeat};
 
 use crate::worker_context::WorkerContext;
@@ -13,7 +13,6 @@ use std::thread::Threads;
 impl<'a> WorkerContext<'a> {
     ghost use Rattle.cox_workers.specs.Ready.{IsSeatWith, IsWorkerReady, IsWorkFor};
     ghost use Rattle.cox_workers.specs.SeatChanges.{IsSeatKept};
-    ghost use Rattle.cox_workers.specs.Filled.{HasSeenEnd};
 
     /// Makes the row of a member, unless another worker has claimed it.
     pub(crate) fn make_free<R: Threads + Wait + Sync, G: Gate>(

@@ -1,6 +1,6 @@
 //! Rows by several workers: each makes rows that they need and that nobody has claimed.
 ghost use Rattle.std.specs.Prelude.{◌≡◌, ℕ, ◌<◌, ◌+◌, ◌^◌, ◌%◌, length, IfSome};
-ghost use Rattle.cox_claims.specs.Seats.{HoldsNothing, HasSeenClaimed};
+ghost use Rattle.cox_claims.specs.Seats.{HoldsNothing, HasSeenClaimed, HasSeenEnd};
 ghost use Rattle.cox_row.specs.Rising.{number_at};
 
 use crate::worker_context::WorkerContext;
@@ -13,7 +13,6 @@ use std::thread::Threads;
 
 impl<'a> WorkerContext<'a> {
     ghost use Rattle.cox_workers.specs.Ready.{IsWorkerReady, IsWorkFor};
-    ghost use Rattle.cox_workers.specs.Filled.{HasSeenEnd};
 
     /// Makes those rows that the row of the member with the number i needs and that no worker has claimed.
     ///

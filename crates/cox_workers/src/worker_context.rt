@@ -1,12 +1,16 @@
 //! What a worker works at.
-ghost use Rattle.std.specs.Prelude.{◌≡◌, ℕ, ◌<◌, length};
+ghost use Rattle.std.specs.Prelude.{◌≡◌, ℕ, ◌<◌, ◌≤◌, length};
 ghost use Rattle.cox_claims.specs.Knowledge.{Looks};
 ghost use Rattle.cox_claims.specs.Seats.{view_of};
+ghost use Rattle.cox_klstep.specs.FoundTogether.{AreFound};
+ghost use Rattle.cox_klstep.specs.Plans.{IsPlan};
 ghost use Rattle.cox_row_store.specs.Stores.{elements_of, IsSeat};
 
 use cox_context::Context;
+use cox_klstep::{FoundPolynomial, RowPlan, Tables};
 use cox_row_store::{RowState, RowStore, Seat};
 use std::alloc::Global;
+use std::thread::Threads;
 
 /// What a worker works at: a store of rows over a context, under the worker's number, from 1.
 #[derive(Drop)]
@@ -58,6 +62,21 @@ impl<'a> WorkerContext<'a> {
             number,
             threads,
         }
+    }
+
+    /// Polynomials of a row that is planned, by so many threads, which are no more than may share the work for one row.
+    pub(crate) fn find_together<R: Threads + Sync>(
+        &self,
+        rt: &R,
+        threads: u32,
+        plan: &RowPlan,
+        tables: &Tables,
+    ) -> Vec<FoundPolynomial>
+        requires plan { IsPlan self.now.context.now tables.now plan.now }
+        requires threads { threads ≤ self.now.threads }
+        ensures { AreFound self.now.context.now plan.now.step.member result.items }
+    {
+        plan.find_together(rt, threads, self.alloc, self.context, tables)
     }
 
     /// The state of the row of a member, by one look.

@@ -1,9 +1,8 @@
 -- The worker's steps.
 use Rattle.std.proofs.Common.{rules, Some, arith, ◌∙◌}
 use Rattle.cox_row_symmetry.proofs.LowerMembers.{lower-before}
-use Rattle.cox_claims.specs.Seats.{HasSeenClaimed}
+use Rattle.cox_claims.specs.Seats.{HasSeenClaimed, HasSeenEnd}
 use Rattle.cox_workers.specs.SeatChanges.{IsNeededAt}
-use Rattle.cox_workers.specs.Filled.{HasSeenEnd}
 use Rattle.cox_workers.proofs.Growing.{claimed-looked, claimed-still, fresh-claimed, fresh-before}
 use Rattle.cox_workers.proofs.Working.{work-trans, work-same, work-again, work-lower, work-needed, work-list, option_or-both}
 use Rattle.cox_workers.proofs.NeedsByNumber.{correction-needed_at, correction-before_at}

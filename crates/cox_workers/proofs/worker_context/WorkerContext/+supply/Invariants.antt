@@ -1,8 +1,7 @@
 -- The row of a member needs those of members with smaller numbers; and what is known while these are provided, one after another.
 use Rattle.std.proofs.Common.{◌+◌, ◌*◌}
 use Rattle.cox_workers.specs.Ready.{IsWorkFor}
-use Rattle.cox_claims.specs.Seats.{HasSeenClaimed}
-use Rattle.cox_workers.specs.Filled.{HasSeenEnd}
+use Rattle.cox_claims.specs.Seats.{HasSeenClaimed, HasSeenEnd}
 use Rattle.std.specs.Prelude.{◌<◌, length, IfSome}
 use Rattle.cox_workers.proofs.worker_context.WorkerContext.+supply.Given as goal
 
