@@ -1,5 +1,5 @@
 -- The seat only looks. If the row is Void, it is that row itself.
-use Rattle.std.proofs.Common.{◌∙◌}
+use Rattle.std.proofs.Common.{refl, ◌∙◌}
 use Rattle.cox_workers.proofs.SeatSteps.{kept-trans, looked_void}
 use Rattle.cox_workers.proofs.worker_context.WorkerContext.wait.Goals as goal
 
@@ -15,7 +15,7 @@ pub returns-in-Void-clause-missing : goal.returns-in-Void-clause-missing
 returns-in-Void-clause-missing g c =
     looked_void c.args.self.now.context.now c.len-len.ensures.admissible c.args.i c.args.seat.now c.loop.seat c.wait_once.new.seat
     c.requires.member
-    c.loop.invariant.none c.in-Void.ensures.void
+    c.loop.invariant.none (c.in-Void.ensures.void refl)
 
 pub loop-preserved : goal.loop-preserved
 loop-preserved g c = record {
