@@ -31,15 +31,16 @@ pub put_back-requires : goal.put_back-requires
 put_back-requires g c =
     let is = sym c.take.ensures.taken ∙ c.in-Some.is in
     rw c.take.ensures.known (still-known c.in-Some.rows c.ensure_each-made.new.rows
-    (more-trans c.in-Some.rows c.with_rows-rows.result c.ensure_each-made.new.rows c.with_rows-rows.ensures c.ensure_each-made.ensures.same) _
-    (known-taken _ c.in-Some.rows _ is c.take.ensures.read_off))
+    (more-trans c.in-Some.rows c.with_rows-rows.result c.ensure_each-made.new.rows c.with_rows-rows.ensures
+    c.ensure_each-made.ensures.same) _ (known-taken _ c.in-Some.rows _ is c.take.ensures.read_off))
 
 pub returns-clause-more : goal.returns-clause-more
 returns-clause-more g c =
     let is : c.args.self.now.rows ≡ Some c.in-Some.rows =
     sym (ap (λ (work : WorkspaceState). work.rows) c.self.view_is) ∙ sym c.take.ensures.taken ∙ c.in-Some.is in
     rw c.put_back.ensures.rows (are-more c.args.self.now.rows c.in-Some.rows c.ensure_each-made.new.rows is
-    (more-trans c.in-Some.rows c.with_rows-rows.result c.ensure_each-made.new.rows c.with_rows-rows.ensures c.ensure_each-made.ensures.same))
+    (more-trans c.in-Some.rows c.with_rows-rows.result c.ensure_each-made.new.rows c.with_rows-rows.ensures
+    c.ensure_each-made.ensures.same))
 
 pub returns-clause-rows : goal.returns-clause-rows
 returns-clause-rows g c =
