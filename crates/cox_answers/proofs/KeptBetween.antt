@@ -31,13 +31,12 @@ use Rattle.cox_inverse.specs.declared.finite.LongestElement.{LongestElement}
 use Rattle.cox_inverse.specs.WholeGroups.{IsReadable}
 use Rattle.cox_answers.specs.Kept.{AreOf, AreKept, IsMore, Keeps}
 use Rattle.cox_answers.specs.Faults.{unanswered_by, unless_fault}
-use Rattle.cox_answers.specs.KeptBetween.{IsSomeBeyond, RefusesBetween, HoldsEnds, HoldsBetween, IsFaultOfOne, IsReadOff}
+use Rattle.cox_answers.specs.KeptBetween.{IsSomeBeyond, RefusesBetween, HoldsEnds, HoldsBetween, HasAllRows, IsFaultOfOne, IsReadOff}
 use Rattle.cox_answers.specs.declared.needs.Ends.{Ends}
 use Rattle.cox_replies.specs.InverseReply.{inverse_limit}
 use Rattle.cox_replies.specs.Limits.{Limits}
-use Rattle.cox_replies.specs.Listed.{RefusesLargeOr}
 use Rattle.cox_replies.specs.Question.{IsRefused}
-use Rattle.cox_replies.proofs.LargeOr.{large-free, large_or-allowed, large_or-refused}
+use Rattle.cox_replies.proofs.LargeOr.{large_or-allowed, large_or-refused}
 use Rattle.cox_answers.proofs.KeptMembers.{below-contained, none-needed, number-contains, member-few}
 
 -- the elements of y and w among the members
@@ -78,15 +77,12 @@ read_off-keeps limits G g y w ends rows w0 of read closed numbers = (
 -- so that is held which was asked for
 pub all-keeps : (limits : Limits) (G : CoxeterMatrix) → IsAdmissible (integer_matrix G) → (y w : List ℕ) (ends : Ends)
     (kept : Option Holding) → AreKept G limits kept → IsSomeAnd kept (HoldsEnds (integer_matrix G) y w ends)
-    → IfSome kept (λ rows. IsClosed (integer_matrix rows.elements.matrix) rows.elements.members)
-    → IfSome kept (λ rows. (i : ℕ) → i < length rows.elements.members → HasRow rows i)
-    → IfSome kept (λ rows. (i : ℕ) → i < length rows.elements.members
-    → IsBeyond (integer_matrix rows.elements.matrix) rows.limit (word_at rows.elements.members i) → ⊥)
+    → IfSome kept (λ rows. IsClosed (integer_matrix rows.elements.matrix) rows.elements.members) → IsSomeAnd kept HasAllRows
     → Keeps (Ok ends) (RefusesBetween limits (integer_matrix G) y w) (HoldsBetween (integer_matrix G) y w) kept
-all-keeps limits G g y w ends None of numbers closed there small = absurd numbers
-all-keeps limits G g y w ends (Some rows) of numbers closed there small =
+all-keeps limits G g y w ends None of numbers closed all = absurd numbers
+all-keeps limits G g y w ends (Some rows) of numbers closed all =
     let inside : IsClosed (integer_matrix G) rows.elements.members = rw of.group at closed in
-    (all-allowed limits G g y w ends rows of inside numbers small, all-holds limits G g y w ends rows of inside numbers there)
+    (all-allowed limits G g y w ends rows of inside numbers all.small, all-holds limits G g y w ends rows of inside numbers all.there)
 
 -- a whole group that is found is one that inverse polynomials are read off
 pub read_off-found : (rows : Holding) (found : Option LongestElement) → ((i : ℕ) → i < length rows.elements.members
@@ -94,23 +90,6 @@ pub read_off-found : (rows : Holding) (found : Option LongestElement) → ((i : 
     → IfSome found (IsReadable rows.elements (HasRow rows) (inverse_limit rows.limit)) → IfSome found (IsReadOff rows)
 read_off-found rows None small none = tt
 read_off-found rows (Some w0) small readable = record { readable = readable; small = small }
-
--- rows that were taken out of a workspace with this group: y and w have these numbers among their members
-pub record AreTaken (G : CoxeterMatrix) (limits : Limits) (y w : List ℕ) (ends : Ends) (rows : Holding) : Type 0 where
-  pub of : AreOf G limits rows
-  pub numbers : HoldsEnds (integer_matrix G) y w ends rows
-  pub few : HasMoreThan limits.context (IsInInterval (integer_matrix G) w) → ⊥
-
--- they are such, where y and w have these numbers in what was kept
-pub are-taken : (G : CoxeterMatrix) (limits : Limits) (y w : List ℕ) (ends : Ends) (kept : Option Holding) (rows : Holding)
-    → AreKept G limits kept
-    → Keeps (Ok ends) (RefusesLargeOr limits (integer_matrix G) w ⊥) (HoldsEnds (integer_matrix G) y w) kept
-    → kept ≡ Some rows → AreTaken G limits y w ends rows
-are-taken G limits y w ends kept rows of interval some = record {
-  of = rw some at of;
-  numbers = rw some at interval.1;
-  few = large-free limits (integer_matrix G) w interval.0;
-}
 
 -- the members between y and w, while their rows are made
 module _ (limits : Limits) (G : CoxeterMatrix) (g : IsAdmissible (integer_matrix G)) (y w : List ℕ) (old new : Holding)

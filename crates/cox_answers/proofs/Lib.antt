@@ -5,3 +5,5 @@ mod KeptBetween
 mod WholeGroups
 mod InverseRefusals
 mod SameMatrices
+mod KnownRows
+mod SettledRows

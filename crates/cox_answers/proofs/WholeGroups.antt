@@ -15,7 +15,7 @@ use Rattle.cox_context.specs.TooLarge.{IsTooLarge}
 use Rattle.cox_context.proofs.Ideals.{element-tail}
 use Rattle.cox_context.proofs.PlacedWords.{contains-placed, contains-at}
 use Rattle.cox_context.proofs.Shifting.{first-member}
-use Rattle.cox_reflect.proofs.NormalElements.{element-word}
+use Rattle.cox_reflect.proofs.NormalElements.{element-normal_form, element-word}
 use Rattle.cox_context.proofs.ShortLexLists.{HasMoreThan-few}
 use Rattle.cox_row_builder.specs.declared.fault.StepFault.{StepFault}
 use Rattle.cox_row_builder.specs.declared.fault.StepFault.TheVariants.{Coefficient, Mu, NoMemory}
@@ -45,6 +45,12 @@ module _ (A : IntegerMatrix) (g : IsAdmissible A) (members : List (List ℕ)) wh
           let p = contains-placed members x (go x (element-tail A g s x e)) in
           subst (Contains members) (ap (λ (y : List ℕ). normal_form A (s ∷ y)) p.is ∙ e.normal)
           (shifts p.i p.within s (element-word A g (s ∷ x) e 0 0 (omega arith)))
+
+  -- in such a list each left shift of a member is one
+  pub whole-has_shifts : IsListOf (IsElement A) members → (i : ℕ) → i < length members → (s : ℕ) → IsLetter A.rank s
+      → Contains members (normal_form A (s ∷ word_at members i))
+  whole-has_shifts all i within s letter = all.whole (normal_form A (s ∷ word_at members i))
+      (element-normal_form A g (s ∷ word_at members i))
 
 -- so many elements, none of them too long, are not refused
 pub not-too_large : (A : IntegerMatrix) (limit : ℕ) (members : List (List ℕ)) → IsClosed A members → IsListOf (IsElement A) members

@@ -1,5 +1,5 @@
 -- What faults lead to: a row or a polynomial is refused, or memory ran out.
-use Rattle.std.specs.Prelude.{Result, Ok, Err}
+use Rattle.std.specs.Prelude.{Bool, true, false, Result, Ok, Err}
 use Rattle.cox_row_builder.specs.declared.fault.StepFault.{StepFault}
 use Rattle.cox_row_builder.specs.declared.fault.StepFault.TheVariants as step
 use Rattle.cox_inverse.specs.declared.fault.InverseFault.{InverseFault}
@@ -17,6 +17,16 @@ unanswered_by _ = Refused LargeRow
 abbrev pub unless_fault : {X : Type 0} → Result Unit StepFault → X → Result X Unanswered
 unless_fault (Ok done) value = Ok value
 unless_fault (Err fault) value = Err (unanswered_by fault)
+
+-- memory ran out, and no row is refused
+abbrev pub is_no_memory : StepFault → Bool
+is_no_memory step.NoMemory = true
+is_no_memory _ = false
+
+-- memory ran out while rows were made
+abbrev pub ran_out : Result Unit StepFault → Bool
+ran_out (Ok done) = false
+ran_out (Err fault) = is_no_memory fault
 
 -- what a fault of inverse polynomials leads to
 abbrev pub inverse_unanswered : InverseFault → Unanswered

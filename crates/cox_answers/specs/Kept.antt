@@ -1,25 +1,36 @@
 -- Rows that a session keeps of its group, and what asking for some of them leads to.
-use Rattle.std.specs.Prelude.{◌≡◌, ℕ, ◌<◌, ◌≤◌, List, length, Option, None, Some, IfSome, IsSomeAnd, Result, Ok, Err, pos}
+use Rattle.std.specs.Prelude.{◌≡◌, ◌⊎◌, ℕ, ◌<◌, ◌≤◌, List, length, Option, None, Some, IfSome, IsSomeAnd, Result, Ok, Err, pos}
 use Rattle.cox_base.specs.Matrix.{CoxeterMatrix}
-use Rattle.cox_base.specs.IntegerMatrix.{IntegerMatrix}
+use Rattle.cox_base.specs.IntegerMatrix.{IntegerMatrix, integer_matrix}
 use Rattle.cox_base.specs.ShortLex.{normal_form}
 use Rattle.cox_base.specs.Members.{IsElement}
 use Rattle.cox_base.specs.SortedList.{IsListOf}
 use Rattle.cox_context.specs.Numbers.{word_at}
 use Rattle.cox_context.specs.Numbering.{IsNumberOf}
+use Rattle.cox_context.specs.Spread.{AreKept as KeepNumbers}
 use Rattle.cox_options.specs.declared.options.Options.{Options}
+use Rattle.cox_rows.specs.Beyond.{NeedsBeyond}
+use Rattle.cox_rows.specs.Ensured.{HoldsNeed}
 use Rattle.cox_rows.specs.Holding.{Holding, HasRow}
 use Rattle.cox_command.specs.declared.refusal.Refusal.{Refusal}
 use Rattle.cox_replies.specs.declared.unanswered.Unanswered.{Unanswered}
 use Rattle.cox_replies.specs.declared.unanswered.Unanswered.TheVariants as unanswered
 use Rattle.cox_replies.specs.Limits.{Limits}
 use Rattle.cox_replies.specs.Question.{IsRefused}
+use Rattle.cox_answers.specs.declared.kept_rows.WholeGroup.{WholeGroup}
 
--- what contracts see of a workspace: the group that is set, the options of the session, and the rows that are kept
+-- the rows that are kept, if any, and what is known of all of them
+pub record KeptState : Type 0 where
+  pub rows : Option Holding
+  pub whole : WholeGroup
+
+-- what contracts see of a workspace: the group that is set, the options of the session, the rows that are kept, and what is known of all of
+-- them
 pub record WorkspaceState : Type 0 where
   pub table : CoxeterMatrix
   pub options : Options
   pub rows : Option Holding
+  pub whole : WholeGroup
 
 -- the group and the options stayed
 pub record IsSameWorkspace (old new : WorkspaceState) : Type 0 where
@@ -41,6 +52,28 @@ pub record IsSameContext (old new : Holding) : Type 0 where
 pub record IsMore (old new : Holding) : Type 0 where
   pub same : IsSameContext old new
   pub there : (i : ℕ) → HasRow old i → HasRow new i
+
+-- the rows that were kept are kept, and maybe more of the same members
+abbrev pub AreMore : Option Holding → Option Holding → Type 0
+AreMore old new = IfSome old (λ rows. IsSomeAnd new (IsMore rows))
+
+-- all rows that the row of this member needs are held, or one of them is beyond the limits
+abbrev pub IsMadeOrBeyond : Holding → ℕ → Type 0
+IsMadeOrBeyond rows i = HoldsNeed rows (word_at rows.elements.members i)
+    ⊎ NeedsBeyond (integer_matrix rows.elements.matrix) rows.limit (word_at rows.elements.members i)
+
+-- the members kept their numbers, and the rows that were there are there
+pub record IsGrown (old new : Holding) : Type 0 where
+  pub members : KeepNumbers old.elements.members new.elements.members
+  pub there : (i : ℕ) → HasRow old i → HasRow new i
+
+-- what was kept is kept, with maybe more members
+abbrev pub AreGrown : Option Holding → Option Holding → Type 0
+AreGrown old new = IfSome old (λ rows. IsSomeAnd new (IsGrown rows))
+
+-- where the members are the same, so is what is known
+abbrev pub IsStillKnown : Option Holding → Option Holding → WholeGroup → WholeGroup → Type 0
+IsStillKnown old new before after = IfSome old (λ was. IfSome new (λ is. is.elements ≡ was.elements → after ≡ before))
 
 -- what is kept: such rows, if any
 abbrev pub AreKept : CoxeterMatrix → Limits → Option Holding → Type 0

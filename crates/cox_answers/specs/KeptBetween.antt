@@ -1,5 +1,5 @@
 -- Rows of the elements between two, and of whole groups, as they are kept for inverse polynomials.
-use Rattle.std.specs.Prelude.{ℕ, ◌<◌, List, length, Option, IfSome, IsSomeAnd, ℤ, pos}
+use Rattle.std.specs.Prelude.{ℕ, ◌<◌, List, length, Option, IfSome, ℤ, pos}
 use Rattle.cox_base.specs.IntegerMatrix.{IntegerMatrix, integer_matrix}
 use Rattle.cox_hecke.specs.ListedElements.{LiesBetween}
 use Rattle.cox_hecke.specs.Needs.{IsNeeded}
@@ -51,7 +51,18 @@ pub record IsReadOff (rows : Holding) (w0 : LongestElement) : Type 0 where
   pub small : (i : ℕ) → i < length rows.elements.members
       → ¬ IsBeyond (integer_matrix rows.elements.matrix) rows.limit (word_at rows.elements.members i)
 
--- where a whole group was found, the rows that are kept are such
+-- the rows of all members are held, and none is beyond its limits
+pub record HasAllRows (rows : Holding) : Type 0 where
+  pub there : (i : ℕ) → i < length rows.elements.members → HasRow rows i
+  pub small : (i : ℕ) → i < length rows.elements.members
+      → ¬ IsBeyond (integer_matrix rows.elements.matrix) rows.limit (word_at rows.elements.members i)
+
+-- it was looked for a whole group
+abbrev pub IsLookedFor : WholeGroup → Type 0
+IsLookedFor NotLookedFor = ⊥
+IsLookedFor (LookedFor found) = Unit {0}
+
+-- where it was looked for a whole group, the rows of all members are held; where one was found, they are such
 abbrev pub AreReadOff : Option Holding → WholeGroup → Type 0
 AreReadOff kept NotLookedFor = Unit {0}
-AreReadOff kept (LookedFor found) = IfSome found (λ group. IsSomeAnd kept (λ rows. IsReadOff rows group))
+AreReadOff kept (LookedFor found) = IfSome kept (λ rows. HasAllRows rows × IfSome found (IsReadOff rows))

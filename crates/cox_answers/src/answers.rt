@@ -2,10 +2,8 @@
 //! it.
 //!
 //! - `finding`: what a command needs, found or made
+//! - `keeping`: what is kept grows by rows
 //! - `prefetch`: rows that are made before they are asked for
-//! - `kept`: the rows that a session keeps
-//! - `kept_group`: those of a whole group
-//! - `between`: those of the elements between two
 //! - `inverse`: single inverse Kazhdan-Lusztig polynomials
 //! - `generated`: rows of generated words
 ghost use Rattle.std.specs.Prelude.{◌≡◌, IfSome, IfNone, None, reverse};
@@ -25,13 +23,11 @@ ghost use Rattle.cox_replies.specs.InquiryQuestion.{IsOrderText, IsRowText, IsEn
 ghost use Rattle.cox_replies.specs.Putting.{PutsUnless, IsEnded};
 ghost use Rattle.cox_answers.specs.Needs.{Answers, IsEnough, IsRowOf, HasRowOf};
 
-pub(crate) mod between;
 mod finding;
-pub(crate) mod generated;
+mod generated;
 mod inverse;
-pub(crate) mod kept;
-pub(crate) mod kept_group;
-pub(crate) mod prefetch;
+mod keeping;
+mod prefetch;
 
 use crate::needs::{Found, need_of};
 use crate::row_maker::RowMaker;

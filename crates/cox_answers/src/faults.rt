@@ -1,6 +1,6 @@
 //! What faults lead to: a refusal, or that memory ran out.
 ghost use Rattle.std.specs.Prelude.{◌≡◌};
-ghost use Rattle.cox_answers.specs.Faults.{unanswered_by, unless_fault, inverse_unanswered};
+ghost use Rattle.cox_answers.specs.Faults.{unanswered_by, unless_fault, is_no_memory, ran_out, inverse_unanswered};
 
 use cox_command::Refusal;
 use cox_inverse::InverseFault;
@@ -26,6 +26,26 @@ pub fn unless_fault<X: Copy>(made: Result<(), StepFault>, value: X) -> Result<X,
     match made {
         Ok(()) => Ok(value),
         Err(fault) => Err(unanswered_by(fault)),
+    }
+}
+
+/// Whether memory ran out, and no row is refused.
+fn is_no_memory(fault: StepFault) -> bool
+    ensures { result ≡ is_no_memory fault }
+{
+    match fault {
+        StepFault::Coefficient { .. } | StepFault::Mu { .. } => false,
+        StepFault::NoMemory => true,
+    }
+}
+
+/// Whether memory ran out while rows were made.
+pub fn ran_out(made: Result<(), StepFault>) -> bool
+    ensures { result ≡ ran_out made }
+{
+    match made {
+        Ok(()) => false,
+        Err(fault) => is_no_memory(fault),
     }
 }
 

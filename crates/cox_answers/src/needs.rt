@@ -10,7 +10,7 @@ ghost use Rattle.cox_replies.specs.InquiryQuestion.{question_of};
 ghost use Rattle.cox_answers.specs.Needs.{IsOver, need_refuses, IsFound, IsEnough};
 ghost use Rattle.cox_answers.specs.declared.needs.Found.{Found};
 
-use crate::answers::generated::RowTotals;
+use crate::totals::RowTotals;
 use cox_base::Word;
 use cox_command::{Inquiry, OneWord, TwoWord};
 

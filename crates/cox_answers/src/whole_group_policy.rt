@@ -1,5 +1,5 @@
 //! When the whole group is taken in the place of interval after interval.
-ghost use Rattle.std.specs.Prelude.{◌≤◌, IfSome};
+ghost use Rattle.std.specs.Prelude.{◌≡◌, ◌<◌, ◌≤◌, ◌*◌, ◌-◌, ◌^◌, max, min, None, IfSome, IfNone};
 
 /// How many members there are when the whole group is first tried. With fewer there is little to save: rows are cheap, and so is each
 /// growth of the context.
@@ -31,6 +31,10 @@ impl WholeGroupPolicy {
         requires { 1 ≤ limit }
         ensures some { IfSome result (λ n. 1 ≤ n) }
         ensures limit { IfSome result (λ n. n ≤ limit) }
+        ensures times { IfSome result (λ n. n ≤ max 1 (16 * members)) }
+        ensures due { IfSome result (λ n. min (2 * members) (2 ^ 32 - 1) ≤ self.new.due) }
+        ensures early { members < self.old.due → result ≡ None }
+        ensures same { IfNone result (self.new ≡ self.old) }
     {
         if members < self.due {
             return None;

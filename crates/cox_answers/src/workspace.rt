@@ -1,9 +1,9 @@
 //! What commands on elements work with: the type, and how a workspace is made.
 //!
-//! - `keeping`: makes sure that members and rows are kept
-//! - `look_ups`: what is told of those that are kept
-mod keeping;
+//! - `look_ups`: what is told of the members and rows that are kept
+//! - `members`: members are added to what is kept
 mod look_ups;
+mod members;
 
 use crate::kept_rows::KeptRows;
 use crate::small_roots::SmallRoots;
@@ -19,9 +19,9 @@ use std::marker::Model;
 /// Which rows are kept shows in no answer.
 #[derive(Drop)]
 pub struct Workspace {
-    roots: SmallRoots,
-    options: Options,
-    kept: KeptRows,
+    pub(crate) roots: SmallRoots,
+    pub(crate) options: Options,
+    pub(crate) kept: KeptRows,
     policy: WholeGroupPolicy,
 }
 
@@ -31,9 +31,9 @@ impl Model for Workspace {
 
     ghost Value = { WorkspaceState };
 
-    ghost view = { λ w. record { table = w.roots; options = w.options; rows = w.kept } };
+    ghost view = { λ w. record { table = w.roots; options = w.options; rows = w.kept.rows; whole = w.kept.whole } };
 
-    ghost invariant = { λ w. AreKept w.roots (limits_of w.options) w.kept };
+    ghost invariant = { λ w. AreKept w.roots (limits_of w.options) w.kept.rows };
 }
 
 impl Workspace {

@@ -1,5 +1,5 @@
 //! What a command needs: found among the rows that are kept, or made.
-ghost use Rattle.std.specs.Prelude.{IfSome};
+ghost use Rattle.std.specs.Prelude.{◌≡◌, IfSome, IsSome};
 ghost use Rattle.cox_base.specs.Matrix.{IsWord};
 ghost use Rattle.cox_base.specs.Admissible.{IsCoxeterMatrix};
 ghost use Rattle.cox_base.specs.IntegerMatrix.{integer_matrix};
@@ -7,7 +7,8 @@ ghost use Rattle.cox_answers.specs.Kept.{IsSameWorkspace};
 ghost use Rattle.cox_replies.specs.SessionLimits.{limits_of};
 ghost use Rattle.cox_replies.specs.CertReply.{RefusesCert};
 ghost use Rattle.cox_replies.specs.InverseReply.{RefusesInverse};
-ghost use Rattle.cox_answers.specs.Needs.{IsOver, need_refuses, IsFound, IsRowOf, HasBetween, Makes};
+ghost use Rattle.cox_answers.specs.Needs.{IsOver, need_refuses, IsFound, IsRowOf, HasBetween, HasGroup, Makes};
+ghost use Rattle.cox_answers.specs.declared.needs.Need.TheVariants.{Group};
 
 use crate::needs::{Found, Need};
 use crate::row_maker::RowMaker;
@@ -20,7 +21,8 @@ impl Workspace {
     /// Finds what a command needs among the rows that are kept, if it is there and nothing refuses it. No row is made.
     pub(crate) fn find(&self, need: &Need<'_>) -> Option<Found>
         requires { IsOver self.now.table.rank need.now }
-        ensures { IfSome result (IsFound self.now need.now) }
+        ensures found { IfSome result (IsFound self.now need.now) }
+        ensures group { need.now ≡ Group → HasGroup self.now → IsSome result }
     {
         match *need {
             Need::Nothing => Some(Found::There),

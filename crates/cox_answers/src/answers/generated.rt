@@ -1,100 +1,33 @@
 //! The answer on generated words.
-ghost use Rattle.std.specs.Prelude.{◌≡◌, ℕ, ◌+◌, ◌<◌, ◌≤◌, ◌^◌, List, length, pos, IfOk, unsigned_abs};
+ghost use Rattle.std.specs.Prelude.{◌≡◌, ℕ, ◌<◌, ◌≤◌, ◌^◌, List, length, pos, IfOk, unsigned_abs};
 ghost use Rattle.std.specs.Int.{int_rem_euclid};
 ghost use Rattle.cox_base.specs.Matrix.{IsWord};
 ghost use Rattle.cox_base.specs.Admissible.{IsCoxeterMatrix};
 ghost use Rattle.cox_base.specs.IntegerMatrix.{integer_matrix};
 ghost use Rattle.cox_base.specs.ShortLex.{normal_form};
-ghost use Rattle.cox_base.specs.declared.limits.TheConstants.{MAX_LETTERS};
-ghost use Rattle.cox_poly.specs.Polynomial.{coefficient, HasDegreeBelow};
 ghost use Rattle.cox_context.specs.Numbers.{word_at};
 ghost use Rattle.cox_context.specs.declared.members.TheConstants.{MAX_MEMBERS};
 ghost use Rattle.cox_command.specs.ParseContract.{AreWorkNumbers};
 ghost use Rattle.cox_rows.specs.Holding.{HasRow};
 ghost use Rattle.cox_answers.specs.Kept.{IsSameWorkspace};
 ghost use Rattle.cox_replies.specs.SessionLimits.{limits_of};
-ghost use Rattle.cox_replies.specs.RowReply.{RefusesRow, coefficients_to};
+ghost use Rattle.cox_replies.specs.RowReply.{RefusesRow};
 ghost use Rattle.cox_replies.specs.WorkReply.{generated_words, RefusesWork};
-ghost use Rattle.cox_replies.specs.Totals.{no_totals, both_totals, polynomial_totals, AreTotalsOf, AreTotals, sum_of};
+ghost use Rattle.cox_replies.specs.Totals.{AreTotalsOf, AreTotals};
 ghost use Rattle.cox_command.specs.declared.inquiry.Inquiry.TheVariants.{Work};
 ghost use Rattle.cox_answers.specs.Needs.{Answers, HasTotals};
 ghost use Rattle.cox_replies.specs.Summing.{SumsUp};
 
 use crate::needs::Found;
 use crate::row_maker::RowMaker;
+use crate::totals::RowTotals;
 use crate::workspace::Workspace;
 use cox_base::Word;
 use cox_command::work_word;
-use cox_poly::PolyView;
 use cox_print::put_work;
 use cox_replies::{Unanswered, unrefused};
 use cox_rows::Rows;
 use std::alloc::Global;
-use std::marker::Model;
-
-/// What is summed up over polynomials of rows: how many there are, their greatest degree, and the sum of all their coefficients.
-#[derive(Drop)]
-pub struct RowTotals {
-    entries: u64,
-    degree: u32,
-    sum: i128,
-}
-
-impl Model for RowTotals {
-    ghost use Rattle.std.specs.Prelude.{◌≤◌, ◌*◌, ◌^◌, unsigned_abs};
-    ghost use Rattle.cox_replies.specs.Totals.{Totals};
-
-    ghost Value = { Totals };
-
-    ghost view = { λ t. record { entries = t.entries; degree = t.degree; sum = t.sum } };
-
-    // A polynomial of a row has at most 256 coefficients, of 64 bits each.
-    ghost invariant = { λ t. unsigned_abs t.sum ≤ t.entries * 2 ^ 71 };
-}
-
-impl RowTotals {
-    /// Those of no polynomials.
-    fn none() -> RowTotals
-        ensures { result ≡ no_totals }
-    {
-        RowTotals {
-            entries: 0,
-            degree: 0,
-            sum: 0,
-        }
-    }
-
-    /// Those of one polynomial, which has a degree of at most `MAX_LETTERS`.
-    fn of(polynomial: &PolyView<'_>) -> RowTotals
-        requires { HasDegreeBelow polynomial.now (MAX_LETTERS + 1) }
-        ensures one { result.entries ≡ 1 }
-        ensures totals { (n : ℕ) → HasDegreeBelow polynomial.now (n + 1)
-            → result ≡ polynomial_totals (coefficients_to n (coefficient polynomial.now)) }
-    {
-        match polynomial.degree() {
-            None => RowTotals {
-                entries: 1,
-                degree: 0,
-                sum: 0,
-            },
-            Some(degree) => RowTotals {
-                entries: 1,
-                degree,
-                sum: coefficient_sum(polynomial, degree),
-            },
-        }
-    }
-
-    /// Adds those of more polynomials.
-    fn add(&mut self, more: &RowTotals)
-        requires { self.old.entries + more.now.entries ≤ 2 ^ 40 }
-        ensures { self.new ≡ both_totals self.old more.now }
-    {
-        self.entries += more.entries;
-        self.degree = self.degree.max(more.degree);
-        self.sum += more.sum;
-    }
-}
 
 impl Workspace {
     /// Puts the totals of the rows of `count` words that are generated from the state `start`.
@@ -188,17 +121,4 @@ fn row_totals(rows: &Rows, i: u32) -> RowTotals
         }
     }
     totals
-}
-
-/// The sum of the coefficients from degree 0 to this one, which is at most `MAX_LETTERS`.
-fn coefficient_sum(polynomial: &PolyView<'_>, degree: u32) -> i128
-    requires { degree ≤ MAX_LETTERS }
-    ensures sum { result ≡ sum_of (coefficients_to degree (coefficient polynomial.now)) }
-    ensures small { unsigned_abs result ≤ 2 ^ 71 }
-{
-    let mut sum = 0;
-    for k in 0..degree + 1 {
-        sum += i128::from(polynomial.coefficient(k));
-    }
-    sum
 }

@@ -10,8 +10,8 @@ ghost use Rattle.cox_replies.specs.Putting.{PutsUnless};
 ghost use Rattle.cox_replies.specs.Question.{IsRefused};
 ghost use Rattle.cox_answers.specs.Needs.{HasBetween};
 
-use crate::answers::between::inverse_limit;
 use crate::faults::inverse_unanswered;
+use crate::kept_rows::between::inverse_limit;
 use crate::needs::{Ends, Found};
 use crate::workspace::Workspace;
 use cox_base::{MAX_RANK, Word};

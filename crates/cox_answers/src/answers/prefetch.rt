@@ -1,17 +1,17 @@
 //! Rows that are made before they are asked for.
-ghost use Rattle.std.specs.Prelude.{◌≡◌, ◌<◌, length, All, IfOk, IfSome};
+ghost use Rattle.std.specs.Prelude.{◌≡◌, ◌<◌, ℕ, length, All, IfOk, OnOk, IfSome, IsSomeAnd};
 ghost use Rattle.cox_command.specs.ParseContract.{HasLetters};
-ghost use Rattle.cox_row.specs.Rising.{AreWithin};
-ghost use Rattle.cox_answers.specs.Kept.{IsMore, IsSameWorkspace};
+ghost use Rattle.cox_row.specs.Rising.{number_at, AreWithin};
+ghost use Rattle.cox_answers.specs.KeptBetween.{IsLookedFor};
+ghost use Rattle.cox_answers.specs.Kept.{AreMore, IsMore, IsSameWorkspace, IsMadeOrBeyond};
 
-use crate::answers::between::with_rows;
+use crate::faults::ran_out;
 use crate::finite::longest_word;
 use crate::needs::{Need, need_of};
-use crate::row_maker::RowMaker;
+use crate::row_maker::{RowMaker, with_rows};
 use crate::workspace::Workspace;
 use cox_base::MAX_RANK;
 use cox_command::Inquiry;
-use cox_klstep::StepFault;
 use cox_minroots::RootTable;
 use cox_replies::{Unanswered, listed_below};
 use cox_rows::Rows;
@@ -30,7 +30,7 @@ impl Workspace {
         if self.make_group_ahead(maker, alloc, inquiries).is_ok()
             && self.add_intervals(alloc, inquiries).is_ok()
         {
-            self.make_rows_ahead(maker, alloc, inquiries);
+            let _ = self.make_rows_ahead(maker, alloc, inquiries);
         }
     }
 
@@ -69,6 +69,56 @@ impl Workspace {
         }
         Ok(())
     }
+
+    /// Makes the rows of members that the commands ask for, and settles them. If they ask for inverse polynomials, it looks whether these
+    /// can be read off. `Err` where memory ran out: then some of these rows may not be there.
+    fn make_rows_ahead<M: RowMaker>(
+        &mut self,
+        maker: &M,
+        alloc: Global,
+        inquiries: &[Inquiry],
+    ) -> Result<(), AllocError>
+        requires words { All (HasLetters self.old.table.rank) inquiries.now }
+        requires ready { M.ready maker.now }
+        ensures same { IsSameWorkspace self.old self.new }
+        ensures more { AreMore self.old.rows self.new.rows }
+        ensures known { IsLookedFor self.old.whole → self.new.whole ≡ self.old.whole }
+    {
+        let Some(rows) = self.kept.rows() else {
+            return Ok(());
+        };
+        let numbers = asked_members(alloc, rows, self.roots.table(), inquiries)?;
+        let settled = self.settle_members(maker, alloc, numbers.as_slice());
+        if inquiries.iter().any(|inquiry| is_on_interval(inquiry)) {
+            self.kept.note_longest();
+        }
+        settled
+    }
+
+    /// Makes the rows of the members with these numbers that are not there, and those that they need, each as far as none of them is beyond
+    /// a limit. `Err` where memory ran out: then the others are left out.
+    fn settle_members<M: RowMaker>(
+        &mut self,
+        maker: &M,
+        alloc: Global,
+        numbers: &[u32],
+    ) -> Result<(), AllocError>
+        requires members { IsSomeAnd self.old.rows (λ rows. AreWithin (length rows.elements.members) numbers.now) }
+        requires ready { M.ready maker.now }
+        ensures same { IsSameWorkspace self.old self.new }
+        ensures more { AreMore self.old.rows self.new.rows }
+        ensures known { self.new.whole ≡ self.old.whole }
+        ensures settled { OnOk result (IfSome self.new.rows (λ rows. (k : ℕ) → k < length numbers.now
+            → IsMadeOrBeyond rows (number_at numbers.now k))) }
+    {
+        let Some(rows) = self.kept.take() else {
+            unreachable!();
+        };
+        let mut rows = with_rows(alloc, rows, maker, numbers);
+        let settled = settle_each(&mut rows, numbers);
+        self.kept.put_back(rows);
+        settled
+    }
 }
 
 /// Whether a command asks for the rows of all elements of the group.
@@ -77,30 +127,8 @@ fn is_on_group(inquiry: &Inquiry) -> bool {
 }
 
 /// Whether a command asks for the rows between two elements.
-pub fn is_on_interval(inquiry: &Inquiry) -> bool {
+fn is_on_interval(inquiry: &Inquiry) -> bool {
     matches!(need_of(inquiry), Need::Between(..))
-}
-
-/// The same rows, and those of members that the commands ask for, as far as no row that they need is beyond a limit, and there is memory
-/// for them.
-pub fn with_asked<M: RowMaker>(
-    alloc: Global,
-    rows: Rows,
-    table: &RootTable,
-    maker: &M,
-    inquiries: &[Inquiry],
-) -> Rows
-    requires table { table.now ≡ rows.elements.matrix }
-    requires words { All (HasLetters table.now.rank) inquiries.now }
-    requires ready { M.ready maker.now }
-    ensures { IsMore rows result }
-{
-    let Ok(numbers) = asked_members(alloc, &rows, table, inquiries) else {
-        return rows;
-    };
-    let mut rows = with_rows(alloc, rows, maker, numbers.as_slice());
-    settle_each(&mut rows, numbers.as_slice());
-    rows
 }
 
 /// The numbers of the members whose rows the commands ask for, each once.
@@ -143,14 +171,17 @@ fn asked_member(alloc: Global, rows: &Rows, table: &RootTable, inquiry: &Inquiry
 }
 
 /// Makes the rows of the members with these numbers that are not there, and those that they need, each as far as none of them is beyond a
-/// limit. If memory runs out, the others are left out.
-fn settle_each(rows: &mut Rows, numbers: &[u32])
+/// limit. `Err` where memory ran out: then the others are left out.
+fn settle_each(rows: &mut Rows, numbers: &[u32]) -> Result<(), AllocError>
     requires { AreWithin (length rows.old.elements.members) numbers.now }
-    ensures { IsMore rows.old rows.new }
+    ensures more { IsMore rows.old rows.new }
+    ensures settled { OnOk result ((k : ℕ) → k < length numbers.now → IsMadeOrBeyond rows.new (number_at numbers.now k)) }
 {
     'each: for &i in numbers {
-        if let Err(StepFault::NoMemory) = rows.ensure(i) {
-            return;
+        let made = rows.ensure(i);
+        if ran_out(made) {
+            return Err(AllocError);
         }
     }
+    Ok(())
 }

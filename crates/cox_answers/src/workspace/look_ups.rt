@@ -1,5 +1,5 @@
 //! What is told of the members and rows that are kept.
-ghost use Rattle.std.specs.Prelude.{◌≡◌, IsSome, IsSomeAnd, IfSome, IsTrue, None, Some};
+ghost use Rattle.std.specs.Prelude.{◌≡◌, ◌↔◌, IsSome, IsSomeAnd, IfSome, IsTrue, None, Some};
 ghost use Rattle.cox_base.specs.Admissible.{IsCoxeterMatrix};
 ghost use Rattle.cox_base.specs.IntegerMatrix.{integer_matrix};
 ghost use Rattle.cox_base.specs.Matrix.{IsWord};
@@ -13,7 +13,7 @@ ghost use Rattle.cox_replies.specs.RowReply.{RefusesRow};
 ghost use Rattle.cox_answers.specs.Kept.{AreOf, AreKept, HoldsElement, HoldsRow, HoldsAll};
 ghost use Rattle.cox_answers.specs.KeptBetween.{HoldsEnds, IsReadOff};
 
-use crate::answers::kept_group::holds_group;
+use crate::kept_rows::group::holds_group;
 use crate::needs::Ends;
 use crate::workspace::Workspace;
 use cox_base::{MAX_RANK, Word};
@@ -86,9 +86,9 @@ impl Workspace {
         Some(i)
     }
 
-    /// Whether the rows of all elements of the group are kept. Then they are not refused.
+    /// Whether the rows of all elements of the group are kept, and the members are in ShortLex order. Then they are not refused.
     pub(crate) fn has_group(&self) -> bool
-        ensures rows { IsTrue result → IsSomeAnd self.now.rows (HoldsAll (integer_matrix self.now.table)) }
+        ensures rows { IsTrue result ↔ IsSomeAnd self.now.rows (HoldsAll (integer_matrix self.now.table)) }
         ensures free { IsTrue result → IsRefused (RefusesGroupRows (limits_of self.now.options) (integer_matrix self.now.table)) None }
         ensures kept { AreKept self.now.table (limits_of self.now.options) self.now.rows }
         ensures group { IsCoxeterMatrix self.now.table }

@@ -15,7 +15,7 @@ use Rattle.cox_replies.specs.Limits.{Limits}
 use Rattle.cox_replies.specs.Listed.{RefusesLargeOr}
 use Rattle.cox_replies.specs.Question.{IsRefused}
 use Rattle.cox_replies.proofs.LargeOr.{large_or-allowed}
-use Rattle.cox_answers.specs.Kept.{AreOf}
+use Rattle.cox_answers.specs.Kept.{AreOf, KeptState}
 use Rattle.cox_answers.proofs.KeptMembers.{found-few}
 use Rattle.cox_answers.proofs.kept_rows.KeptRows.extend.Goals as goal
 
@@ -59,13 +59,14 @@ invariant_of-self c =
     = ap (λ (e : Elements). length e.members) (sym c.context-2.ensures.context) ∙ sym c.len.ensures.len ∙ c.if-len-before.true
     ∙ c.len-before.ensures.len ∙ ap (λ (e : Elements). length e.members) c.context.ensures.context in
     let same : c.self-2.inside.rows ≡ c.self.inside.rows
-    = c.self-2.view_is ∙ ap (λ (rows : Holding). Some rows) (same-rows old new grown.matrix grown.limit grown.kept size grown.holds
-    grown.steps) ∙ sym c.in-Some.is ∙ c.change.ensures.rows ∙ sym c.self.view_is in
+    = ap (λ (k : KeptState). k.rows) c.self-2.view_is ∙ ap (λ (rows : Holding). Some rows) (same-rows old new grown.matrix grown.limit
+    grown.kept size grown.holds grown.steps) ∙ sym c.in-Some.is ∙ c.change.ensures.rows
+    ∙ sym (ap (λ (k : KeptState). k.rows) c.self.view_is) in
     rw same c.self.invariant
 
 pub returns-then-len-before-clause-free : goal.returns-then-len-before-clause-free
 returns-then-len-before-clause-free c =
-    let is : c.args.self.now ≡ Some c.in-Some.rows = sym c.change.ensures.rows ∙ c.in-Some.is in
+    let is : c.args.self.now.rows ≡ Some c.in-Some.rows = sym c.change.ensures.rows ∙ c.in-Some.is in
     let grown = c.extend-number.ensures in
     let context = c.context-2.ensures in
     rw is (free c.in-Some.rows c.extend-number.new.self grown.matrix grown.limit c.args.table.now (sym (rw is at c.requires.group))
@@ -73,7 +74,7 @@ returns-then-len-before-clause-free c =
 
 pub returns-else-len-before-clause-free : goal.returns-else-len-before-clause-free
 returns-else-len-before-clause-free c =
-    let is : c.args.self.now ≡ Some c.in-Some.rows = sym c.change.ensures.rows ∙ c.in-Some.is in
+    let is : c.args.self.now.rows ≡ Some c.in-Some.rows = sym c.change.ensures.rows ∙ c.in-Some.is in
     let grown = c.extend-number.ensures in
     let context = c.context-2.ensures in
     rw is (free c.in-Some.rows c.extend-number.new.self grown.matrix grown.limit c.args.table.now (sym (rw is at c.requires.group))

@@ -12,10 +12,15 @@ returns-in-Some c =
     let rows = c.in-Some.rows in
     let table : c.self.inside.roots ≡ G = ap (λ (work : WorkspaceState). work.table) c.self.view_is in
     let options : c.self.inside.options ≡ c.args.self.now.options = ap (λ (work : WorkspaceState). work.options) c.self.view_is in
-    let inside : c.self.inside.kept ≡ Some rows = sym c.rows.ensures ∙ c.in-Some.is in
+    let inside : c.self.inside.kept.rows ≡ Some rows = sym c.rows.ensures ∙ c.in-Some.is in
     let is : c.args.self.now.rows ≡ Some rows = sym (ap (λ (work : WorkspaceState). work.rows) c.self.view_is) ∙ inside in
     let of : AreOf G limits rows = rw (table, options) at (rw inside at c.self.invariant) in
     let held = c.holds_group.ensures in
-    let all = λ (done : IsTrue c.holds_group.result). all-kept G limits rows of c.context-context.ensures.closed (held.all done)
+    let all = λ (done : IsTrue c.holds_group.result). all-kept G limits rows of c.context-context.ensures.closed (held.all.0 done)
     (held.small done) in
-    record { rows = λ done. rw is (all done).1; free = λ done. (all done).0; kept = search rules; group = search rules }
+    record {
+      rows = (λ done. rw is (all done).1, λ holds. held.all.1 (rw (← of.group) at (rw is at holds)));
+      free = λ done. (all done).0;
+      kept = search rules;
+      group = search rules;
+    }
