@@ -1,5 +1,5 @@
 -- The elements of A 2: their normal forms, and the lengths of short words.
-use Rattle.std.proofs.Common.{◌≡◌, ℕ, zero, suc, ◌-◌, ◌≤◌, List, [], ◌∷◌, length, negsuc, refl, arith}
+use Rattle.std.proofs.Common.{◌≡◌, ℕ, zero, suc, ◌≤◌, List, [], ◌∷◌, length, negsuc, refl, arith}
 use Rattle.std.proofs.lemmas.Int.{ints}
 use Rattle.cox_base.specs.Matrix.{IsLetter, IsWord}
 use Rattle.cox_base.specs.Admissible.{IsAdmissible}
@@ -7,7 +7,7 @@ use Rattle.cox_base.proofs.AdmissibleMatrices.{IsAdmissible-integer_matrix}
 use Rattle.cox_base.proofs.LabelRows.{type_matrix-IsCoxeterMatrix}
 use Rattle.cox_base.specs.NamedType.{type_matrix}
 use Rattle.cox_base.specs.Element.{matrix}
-use Rattle.cox_base.specs.ShortLex.{normal_form, words_up_to, letters}
+use Rattle.cox_base.specs.ShortLex.{normal_form, words_up_to}
 use Rattle.cox_base.specs.Length.{word_length}
 use Rattle.cox_base.specs.Members.{IsElement}
 use Rattle.cox_base.specs.Descents.{IsRightDescent}

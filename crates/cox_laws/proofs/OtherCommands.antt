@@ -18,7 +18,7 @@ use Rattle.cox_command.specs.declared.refusal.Refusal.{Refusal}
 use Rattle.cox_command.specs.declared.command.Command.{Command}
 use Rattle.cox_command.specs.declared.command.Command.TheVariants as gives
 use Rattle.cox_command.specs.declared.command_word.CommandWord.{CommandWord}
-use Rattle.cox_command.specs.declared.command_word.CommandWord.TheVariants.{Named, Matrix, Quit, Jobs}
+use Rattle.cox_command.specs.declared.command_word.CommandWord.TheVariants.{Named, Matrix}
 use Rattle.cox_replies.specs.Question.{IsRefused}
 use Rattle.cox_shell.specs.Reply.{OpenList, State, Reply, rank_of, refusal, silence}
 use Rattle.cox_shell.specs.OpenLists.{then_block}

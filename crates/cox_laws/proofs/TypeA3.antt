@@ -3,7 +3,7 @@ use Rattle.std.proofs.Common.{◌≡◌, ℕ, zero, suc, List, [], ◌∷◌, �
 use Rattle.std.proofs.lemmas.Int.{ints}
 use Rattle.cox_base.specs.NamedType.{type_matrix}
 use Rattle.cox_base.specs.Element.{matrix}
-use Rattle.cox_base.specs.ShortLex.{normal_form, letters}
+use Rattle.cox_base.specs.ShortLex.{normal_form}
 use Rattle.cox_base.specs.Length.{word_length}
 use Rattle.cox_base.specs.Admissible.{IsAdmissible}
 use Rattle.cox_base.proofs.AdmissibleMatrices.{IsAdmissible-integer_matrix}
