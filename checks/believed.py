@@ -15,7 +15,7 @@ the code that are reached, and the names of std and of the kit's crates. With `-
 definitions of `clap` are followed too. With `--clause` it begins with the clause of that name of FUNCTION alone. With `--beyond` it leaves
 out what the clauses of that function unfold to. CRATE::NAME is any function of a crate's src/: a public call, or a law.
 
-With `--command` it prints what is proved of one command, say `pol`: its clause of the law `commands` in crates/cox_shell/src/laws.rt. Then
+With `--command` it prints what is proved of one command, say `pol`: its clause of the law `commands` in crates/cox_laws/src/laws.rt. Then
 come the lines that a reader of that has to believe: of the mathematics that the answer is, of its text, and of its refusals, with the tokens
 of a line and the words that they read as, each part counted, and each line in one part alone. With `--commands` it prints that of all commands together, each line once and each
 file behind those that it needs: the mathematics, the clauses of the law, the texts and the refusals.
@@ -43,7 +43,7 @@ class Item:
     """A definition: its name, the lines of it, and the lines of comment above it."""
 
     def __init__(self, name, comments):
-        self.name, self.lines, self.comments = name, [], comments
+        self.name, self.lines, self.comments, self.constructors = name, [], comments, []
 
     def text(self):
         return "\n".join(self.lines)
@@ -90,6 +90,7 @@ class File:
                 constructor = re.match(rf"\s+({NAME})\s*:", line)
                 if constructor and "data " in item.lines[0]:
                     self.items[constructor.group(1)] = item
+                    item.constructors.append(constructor.group(1))
 
 
 def specs(folders):
@@ -152,20 +153,33 @@ def laws_of(crates):
     return found
 
 
-def twins(files):
-    """Names that stand for two things among what the clauses of `run` and `check` unfold to: definitions, types and constants of the code."""
-    places = defaultdict(set)
+def named_things(files):
+    """What the clauses of `run` and `check` unfold to, by names: the places of definitions, types and constants of the code; and those of
+    constructors, of the definitions and of the types of the code."""
+    things, constructors = defaultdict(set), defaultdict(set)
     for function in ("run", "check"):
         reached, outside = follow(files, clauses(function, None))
         for path, items in reached.items():
             for item in items:
-                places[item.name].add(place(path))
+                things[item.name].add(place(path))
+                if re.match(r"(pub )?data ", item.lines[0]):
+                    for name in item.constructors:
+                        constructors[name].add(f"{place(path)}.{item.name}")
         for path, name in outside:
-            if own(path) and path.endswith(".TheConstants"):
-                places[name].add(place(path))
-            elif own(path) and not path.endswith(".TheVariants"):
-                places[name].add(place(path))
-    return {name: sorted(where) for name, where in places.items() if len(where) > 1}
+            if own(path):
+                (constructors if path.endswith(".TheVariants") else things)[name].add(place(path))
+    return things, constructors
+
+
+def twins(files):
+    """Names that stand for two things among what the clauses of `run` and `check` unfold to: definitions, types and constants of the code."""
+    return {name: sorted(where) for name, where in named_things(files)[0].items() if len(where) > 1}
+
+
+def shared_constructors(files):
+    """The names of constructors there that stand for something else too: another constructor, a definition, a type or a constant."""
+    things, constructors = named_things(files)
+    return sorted(name for name, where in constructors.items() if len(where) > 1 or name in things)
 
 
 def names_in(text):
@@ -212,7 +226,7 @@ def follow(files, starts, left=frozenset()):
 # ---- one command
 
 # The laws, of which `commands` has a clause for each command.
-LAWS = "cox_shell/src/laws.rt"
+LAWS = "cox_laws/src/laws.rt"
 REPLIES = "Rattle.cox_replies.specs."
 GRAMMAR = "Rattle.cox_command.specs."
 # What stands behind the name of a command, by the shape of its word in the table of command words.

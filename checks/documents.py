@@ -9,7 +9,8 @@ in the order and under the headings of that file, with the crates that its code 
 may stand on one below it, or list there what its files do not name. The tables of other
 documents have each crate that they are about, and none that is not there. A limit has the value
 that its constant has, where a table or a sentence tells it. Links lead to files and headings,
-what is named as a file is one, and a name in backticks stands somewhere in the tree. Lines have
+what is named as a file is one, and a name in backticks stands somewhere in the tree. README.md's first
+script is that of the law `first_script`. Lines have
 at most 100 characters, but for tables, blocks of code and links that are too long by themselves.
 docs/BENCHMARKS.md has at most 120 lines, and README.md 200. Files of the crates have at most 400 lines, unless
 docs/DECISIONS.md says why one is longer, and lines of at most 140 characters. What is in release/ is
@@ -426,6 +427,10 @@ def counts(problems, crates):
     files = believed.specs([os.path.join(TOP, "crates", it) for it in sorted(crates)])
     for name, places in sorted(believed.twins(files).items()):
         problems.want(False, f"{DEFINITIONS}: {name} stands for two things, in {' and '.join(places)}")
+    shared = re.search(r"Constructors may:.*?\n\n", read(DEFINITIONS), re.S)
+    told, found = set(spans(shared.group(0))) if shared else set(), set(believed.shared_constructors(files))
+    for name in sorted(told ^ found):
+        problems.want(False, f"{DEFINITIONS}: the constructor {name} {'is not listed' if name in found else 'is listed, and shares no name'}")
     documents, missing = believed.told(files)
     for sentence in missing:
         problems.want(False, sentence)
@@ -433,6 +438,15 @@ def counts(problems, crates):
         for before, behind in zip(old.splitlines(), new.splitlines()):
             told = f"{document}: {before}\n  should be {behind} (checks/believed.py --write)"
             problems.want(before == behind, told)
+
+
+def first_script(problems):
+    """README.md's first script, and its answer, are those of the law `first_script`."""
+    found = re.search(r"printf '([^']*)' \| \./coxeter\n```\n\n```text\n(.*?)```", read("README.md"), re.S)
+    told = [found.group(1).replace("\\n", "\n"), found.group(2)] if found else []
+    text = read("crates", "cox_laws", "specs", "FirstScript.antt")
+    stated = ["".join(f"{line}\n" for line in re.findall(r'codes "([^"]*)"', it)) for it in re.findall(r"^\w+ = bytes_of .*$", text, re.M)]
+    problems.want(told == stated, f"README.md: its first script and answer are not those of the law first_script: {told}, {stated}")
 
 
 def names(problems):
@@ -560,6 +574,7 @@ def main():
     named_files(problems, crates)
     definitions(problems, crates)
     counts(problems, crates)
+    first_script(problems)
     names(problems)
     widths(problems, write)
     lengths(problems)

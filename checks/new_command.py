@@ -31,7 +31,7 @@ from common import TOP, Count
 TWIN, NAME = "extremals", "Extremals"
 FIRST = "cox_command/src/inquiry.rt"
 # The crates that are checked, lowest first, and the one whose program answers.
-CRATES, PROGRAM = ["cox_command", "cox_replies", "cox_answers", "cox_shell"], "coxeter"
+CRATES, PROGRAM = ["cox_command", "cox_replies", "cox_answers", "cox_shell", "cox_laws"], "coxeter"
 SCRIPT = "type A 3\nfoo 2132\nextremals 2132\n"
 
 

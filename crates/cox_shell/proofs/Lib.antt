@@ -11,11 +11,7 @@ pub mod WrittenByRun
 pub mod DueByRun
 pub mod UnreadRuns
 pub mod RunContract
-pub mod UnhinderedRuns
-pub mod LimitedRuns
 pub mod RowsFromStore
-pub mod SameAnswers
-pub mod Due
 pub mod SaidReplies
 pub mod SetMatrices
 pub mod GroupReplies
@@ -23,7 +19,6 @@ pub mod ContentReplyExists
 pub mod KeptGroup
 pub mod BlockReadings
 pub mod BlockLines
-pub mod BlockScripts
 pub mod ListReplies
 pub mod Quitting
 pub mod AnsweredBlocks
@@ -34,5 +29,3 @@ pub mod KeptLists
 pub mod Snapshots
 pub mod Shared
 pub mod ClosedLists
-pub mod SomeAnswer
-pub mod AnsweredLines

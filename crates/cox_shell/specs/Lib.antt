@@ -2,14 +2,12 @@ pub mod Reply
 pub mod SessionState
 pub mod CommandReply
 pub mod ContentReply
-pub mod Answered
 pub mod OpenLists
 pub mod BlockReading
 pub mod Blocks
 pub mod ListReply
 pub mod GivenReply
 pub mod LineReply
-pub mod BlockScripts
 pub mod Answer
 pub mod ScriptAnswer
 pub mod Keeping
@@ -25,6 +23,3 @@ pub mod Top
 pub mod Reading
 pub mod WholeRun
 pub mod GivenLimits
-pub mod Limited
-pub mod Unhindered
-pub mod SameRuns

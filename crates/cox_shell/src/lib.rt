@@ -21,8 +21,6 @@
 //! - `running`: all lines, and the status that they lead to
 //! - `closing`: the end of reading, where an open list ends
 //! - `top`: the whole run, with the arguments of the program
-//! - `laws`: a script has exactly one answer, whatever the number of workers, and what is due to be written is a prefix of it; a
-//!   block in a list is answered as it is alone
 #![tactic(auto)]
 
 mod answered;
@@ -30,7 +28,6 @@ mod at_once;
 mod block_answerer;
 mod block_line;
 mod closing;
-pub mod laws;
 mod limits;
 mod list;
 mod prefetch;

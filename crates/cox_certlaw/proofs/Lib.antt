@@ -1,3 +1,0 @@
-pub mod TrimmedLists
-pub mod RowCertificates
-pub mod CertProofs

@@ -1,0 +1,17 @@
+pub mod SomeAnswer
+pub mod Due
+pub mod UnhinderedRuns
+pub mod LimitedRuns
+pub mod SameAnswers
+pub mod BlockScripts
+pub mod AnsweredLines
+pub mod OtherCommands
+pub mod WordsOnLiterals
+pub mod TypeA2
+pub mod FirstScript
+pub mod TypeA3
+pub mod ElementsA2
+pub mod CellsA2
+pub mod TrimmedLists
+pub mod RowCertificates
+pub mod CertProofs

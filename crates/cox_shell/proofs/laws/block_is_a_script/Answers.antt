@@ -1,6 +1,0 @@
--- The law `block_is_a_script`.
-use Rattle.cox_shell.proofs.BlockScripts.{block-script}
-use Rattle.cox_shell.proofs.laws.block_is_a_script.Goals as goal
-
-pub returns : goal.returns
-returns c = block-script

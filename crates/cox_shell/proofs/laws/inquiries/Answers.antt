@@ -1,6 +1,0 @@
--- What a command on elements is answered.
-use Rattle.cox_shell.proofs.AnsweredLines.{inquiry-answered}
-use Rattle.cox_shell.proofs.laws.inquiries.Goals as goal
-
-pub returns : goal.returns
-returns c = inquiry-answered

@@ -1,6 +1,0 @@
--- The law `some_answer`.
-use Rattle.cox_shell.proofs.SomeAnswer.{IsAnswer-exists}
-use Rattle.cox_shell.proofs.laws.some_answer.Goals as goal
-
-pub returns : goal.returns
-returns c limits script = IsAnswer-exists limits script

@@ -1,6 +1,0 @@
--- The law `workers_change_nothing`.
-use Rattle.cox_shell.proofs.SameAnswers.{same-answers}
-use Rattle.cox_shell.proofs.laws.workers_change_nothing.Goals as goal
-
-pub returns : goal.returns
-returns c = same-answers
