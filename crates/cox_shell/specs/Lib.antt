@@ -13,6 +13,7 @@ pub mod ScriptAnswer
 pub mod Keeping
 pub mod AnsweredText
 pub mod Saying
+pub mod MovedRows
 pub mod Status
 pub mod Stopping
 pub mod ExitCode

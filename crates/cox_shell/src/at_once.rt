@@ -2,15 +2,16 @@
 //!
 //! Each thread answers its blocks in a session of its own. The answers are put together in the order of the blocks, so they do not depend
 //! on the threads.
-ghost use Rattle.std.specs.Prelude.{◌≡◌, ◌<◌, ◌≤◌, ◌+◌, ◌^◌, false, length, IfSome};
+ghost use Rattle.std.specs.Prelude.{◌≡◌, ◌<◌, ◌≤◌, ◌+◌, ◌^◌, false, length, IfSome, OnOk};
 ghost use Rattle.std.specs.Thread.{IsSync};
 ghost use Rattle.cox_shell.specs.OpenLists.{is_long};
-ghost use Rattle.cox_shell.specs.AnsweredText.{AnswersList, AnswersListIfOk};
+ghost use Rattle.cox_shell.specs.AnsweredText.{AnswersBlocks, AnswersList, AnswersListIfOk};
 
 use crate::answered::AnsweredText;
 use crate::list::Block;
 use crate::prefetch::SharedRows;
 use crate::session::Session;
+use cox_answers::Workspace;
 use cox_outside::{Gate, Point};
 use std::alloc::{AllocError, Global};
 use std::sync::Wait;
@@ -97,13 +98,30 @@ fn answer_in_order<R: Wait, G: Gate>(
     ensures { AnswersListIfOk result session.now blocks.now }
 {
     let mut own = session.fresh()?;
-    let maker = SharedRows {
-        workspace: session.workspace(),
-    };
     let mut answered = AnsweredText::new(alloc);
+    let workspace = session.workspace();
+    answer_each(rt, gate, &mut own, workspace, blocks, first, &mut answered)?;
+    Ok(answered)
+}
+
+/// Answers blocks in a session, one after another, behind what was answered before. The session reads the rows of this workspace.
+fn answer_each<R: Wait, G: Gate>(
+    rt: &R,
+    gate: &G,
+    own: &mut Session,
+    workspace: Option<&Workspace>,
+    blocks: &[Block],
+    first: u32,
+    answered: &mut AnsweredText,
+) -> Result<(), AllocError>
+    requires { first + length blocks.now < 2 ^ 32 }
+    ensures same { own.new ≡ own.old }
+    ensures answered { OnOk result (AnswersBlocks own.old blocks.now answered.old answered.new) }
+{
+    let maker = SharedRows { workspace };
     'each: for place in 0..blocks.len() {
         gate.pass(rt, first + place as u32, Point::Block, 0);
-        own.answer_block(&maker, &blocks[place], &mut answered)?;
+        own.answer_block(&maker, &blocks[place], answered)?;
     }
-    Ok(answered)
+    Ok(())
 }

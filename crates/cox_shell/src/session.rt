@@ -150,8 +150,8 @@ impl Session {
         if workers == 1 {
             return self.answer(line, out);
         }
-        // Put together here, in `answer_jobs` and in `run_with` (`top.rt`): a closure that holds the handle `rt` cannot be returned, so no
-        // function can make it for all three.
+        // Put together here, in `answer_blocks_with` and in `run_with` (`top.rt`): a closure that holds the handle `rt` cannot be returned,
+        // so no function can make it for all three.
         let maker = ByWorkers {
             make: |rows: Rows, alloc: Global, wanted: &[u32]| -> Rows
                 requires { IsSync R.row × IsSync G.row × (1 ≤ workers) × AreWithin (length rows.elements.members) wanted.now }
@@ -228,6 +228,26 @@ impl Session {
             return self.answer_jobs_one(blocks, out);
         }
         let _rank = self.rank();
+        let mut own = self.fresh()?;
+        own.answer_blocks_with(rt, workers, blocks, out, gate)
+    }
+
+    /// Answers blocks where no list is open, by so many threads, as `answer_jobs` does.
+    fn answer_blocks_with<R: Threads + Wait + Sync, G: Gate + Sync>(
+        &mut self,
+        rt: &R,
+        workers: u32,
+        blocks: &[Block],
+        out: &mut Vec<u8>,
+        gate: &G,
+    ) -> Result<Said, AllocError>
+        requires outside { self.old.list ≡ None }
+        requires workers { 1 ≤ workers }
+        ensures ok { IfOk result (λ said. (reply : Reply) × IsListReply self.old blocks.now reply
+            × SaysText said reply out.old.items out.new.items) }
+        ensures err { OnErr result ((reply : Reply) × IsListReply self.old blocks.now reply
+            × PutsPrefix reply.text out.old.items out.new.items) }
+    {
         let maker = ByWorkers {
             make: |rows: Rows, alloc: Global, wanted: &[u32]| -> Rows
                 requires { IsSync R.row × IsSync G.row × (1 ≤ workers) × AreWithin (length rows.elements.members) wanted.now }
@@ -238,8 +258,7 @@ impl Session {
                 ensures { IfSome result (λ answered. AnswersList session.now blocks.now answered) }
             { answer_list(rt, gate, workers, session, alloc, blocks) },
         };
-        let mut own = self.fresh()?;
-        own.answer_blocks(&maker, blocks, out)
+        self.answer_blocks(&maker, blocks, out)
     }
 
     /// Answers a line in the same way as `answer`, by what was given of it, with rows by this maker.

@@ -2,13 +2,14 @@
 //!
 //! The rows that are there are moved into the store first, and all come back afterwards. What the workers could not make is left to whoever
 //! asked: one thread makes it then, or finds that a row is beyond a limit.
-ghost use Rattle.std.specs.Prelude.{◌≡◌, ◌⊎◌, ℕ, ◌<◌, ◌≤◌, length, IsTrue};
+ghost use Rattle.std.specs.Prelude.{◌≡◌, ◌≢◌, ◌⊎◌, ℕ, ◌<◌, ◌≤◌, length, IsTrue};
 ghost use Rattle.cox_claims.specs.Seats.{HoldsNothing, HasSeen, view_of};
 ghost use Rattle.cox_claims.specs.Knowledge.{SeesAll};
 ghost use Rattle.cox_row.specs.Rising.{AreWithin};
 ghost use Rattle.cox_row_store.specs.Stores.{elements_of, limit_of, IsSeat};
 ghost use Rattle.cox_rows.specs.Holding.{HasRow};
 ghost use Rattle.cox_answers.specs.Kept.{IsSameContext, IsMore};
+ghost use Rattle.cox_shell.specs.MovedRows.{IsSeenTaken};
 
 use crate::answered::AnsweredText;
 use crate::block_answerer::BlockAnswerer;
@@ -19,7 +20,7 @@ use cox_context::Context;
 use cox_outside::Gate;
 use cox_row_store::{Claimed, RowStore, Seat};
 use cox_rows::Rows;
-use cox_workers::{fill, fill_row};
+use cox_workers::{fill, fill_row, shorter_member};
 use std::alloc::{AllocError, Global};
 use std::sync::Wait;
 use std::thread::Threads;
@@ -27,14 +28,20 @@ use std::thread::Threads;
 /// From how many missing rows on workers are asked at once.
 const MANY_ROWS: usize = 1_024;
 
-/// Where fewer than [`MANY_ROWS`] rows are missing: how many polynomials one thread adds up before workers are asked, with
-/// [`FEW_FOR_EACH_MEMBER`] more for each member. To start threads, and to make a store and tables over all members, is not worth it for
-/// less.
-const FEW_POLYNOMIALS: u64 = 131_072;
+/// How many polynomials are added up in the time that it takes to start threads. In the time that a store and the tables of workers take,
+/// one more is added up for each member of the context.
+const START_COST: u64 = 4_096;
 
-/// How many more polynomials it adds up for each member of the context: a store and the tables of workers take time and memory in
-/// proportion to the members.
-const FEW_FOR_EACH_MEMBER: u64 = 16;
+/// The rows that are there are moved into the store and out of it. In that time one polynomial is added up for so many that were added up
+/// to make them.
+const ADDED_FOR_ONE: u64 = 2;
+
+/// Where fewer than [`MANY_ROWS`] rows are missing: workers are asked when so many times what they cost is known to be left. Mostly more is
+/// left than is known.
+const TIMES_LEFT: u64 = 2;
+
+/// They are asked too when one thread has added up so many times what they cost.
+const TIMES_ADDED: u64 = 16;
 
 /// A list of at least this many lines is answered by several threads, whatever its lines are. For fewer short lines it is not worth it to
 /// start threads.
@@ -138,15 +145,48 @@ fn begin_rows(rows: &mut Rows, wanted: &[u32]) -> bool
     if are_many(rows, wanted) {
         return false;
     }
-    let most = FEW_POLYNOMIALS + FEW_FOR_EACH_MEMBER * u64::from(rows.context().len());
+    let most = cost_of_workers(rows).saturating_mul(TIMES_ADDED);
     let last = rows.steps().saturating_add(most);
     'each: for &i in wanted {
-        let left = last.saturating_sub(rows.steps());
-        if !rows.begin(i, left) {
+        if !begin_chain(rows, i, 0, last) {
             return false;
         }
     }
     true
+}
+
+/// How many polynomials are added up in the time that workers cost.
+fn cost_of_workers(rows: &Rows) -> u64 {
+    let members = u64::from(rows.context().len());
+    START_COST + members + rows.steps() / ADDED_FOR_ONE
+}
+
+/// Makes the row of the member with the number i, and those that it needs, by this thread: first those of the shorter elements, by their
+/// least left descents, from the shortest on. There are so many elements above it in such a chain.
+///
+/// It ends early, and says no, when more than `last` polynomials were added up in all, or when workers are worth it: the row of a longer
+/// element mostly takes more than that of a shorter one, so what this one took is left for each element above it.
+fn begin_chain(rows: &mut Rows, i: u32, above: u64, last: u64) -> bool
+    requires { i < length rows.old.elements.members }
+    ensures { IsMore rows.old rows.new }
+{
+    let _context = rows.context();
+    if rows.is_settled(i) {
+        return true;
+    }
+    let begun = match shorter_member(rows.context(), i) {
+        Some(lower) => begin_chain(rows, lower, above.saturating_add(1), last),
+        None => true,
+    };
+    if !begun {
+        return false;
+    }
+    let before = rows.steps();
+    if !rows.begin(i, last.saturating_sub(before)) {
+        return false;
+    }
+    let taken = rows.steps().saturating_sub(before);
+    taken.saturating_mul(above) < cost_of_workers(rows).saturating_mul(TIMES_LEFT)
 }
 
 /// Whether many rows of the members with these numbers are not there.
@@ -255,7 +295,9 @@ fn move_rows<R: Wait>(rt: &R, rows: &mut Rows, store: &RowStore, seat: Seat) -> 
     ensures own { IsSeat store.now result }
     ensures idle { HoldsNothing result }
     ensures there { (i : ℕ) → HasRow rows.old i → HasRow rows.new i ⊎ HasSeen result i }
+    ensures moved { (i : ℕ) → HasRow rows.old i → IsSeenTaken result i }
 {
+    let _context = rows.context();
     let mut seat = seat;
     for i in 0..rows.context().len() {
         move_row(rt, rows, store, &mut seat, i);
@@ -273,8 +315,10 @@ fn move_row<R: Wait>(rt: &R, rows: &mut Rows, store: &RowStore, seat: &mut Seat,
     ensures same { IsSameContext rows.old rows.new }
     ensures own { IsSeat store.now seat.new }
     ensures idle { HoldsNothing seat.new }
-    ensures seen { (i : ℕ) → HasSeen seat.old i → HasSeen seat.new i }
+    ensures seen { SeesAll (view_of seat.old) (view_of seat.new) }
     ensures there { (i : ℕ) → HasRow rows.old i → HasRow rows.new i ⊎ HasSeen seat.new i }
+    ensures others { (i : ℕ) → i ≢ member → HasRow rows.old i → HasRow rows.new i }
+    ensures moved { HasRow rows.old member → IsSeenTaken seat.new member }
 {
     if !rows.has(member) {
         return;

@@ -5,8 +5,8 @@ use Rattle.cox_shell.proofs.workers.begin_rows.Goals as goal
 pub each-preserved : goal.each-preserved
 each-preserved c =
     let was = c.each.invariant in
-    let begun = c.begin.ensures.rows in
+    let begun = c.begin_chain.ensures in
     record {
-      same = record { elements = begun.elements ∙ was.same.elements; limit = begun.limit ∙ was.same.limit };
-      there = λ i held. begun.kept i (was.there i held);
+      same = record { elements = begun.same.elements ∙ was.same.elements; limit = begun.same.limit ∙ was.same.limit };
+      there = λ i held. begun.there i (was.there i held);
     }

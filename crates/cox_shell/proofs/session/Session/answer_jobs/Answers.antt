@@ -13,8 +13,8 @@ returns-in_err-own-clause-err g c =
 
 pub returns-clause-ok : goal.returns-clause-ok
 returns-clause-ok g c =
-    let own : c.in_ok-own.own ≡ closed c.args.self.now = c.in_ok-own.ensures {u = tt} in rw own at c.answer_blocks.ensures.ok
+    let own : c.in_ok-own.own ≡ closed c.args.self.now = c.in_ok-own.ensures {u = tt} in rw own at c.answer_blocks_with.ensures.ok
 
 pub returns-clause-err : goal.returns-clause-err
 returns-clause-err g c =
-    let own : c.in_ok-own.own ≡ closed c.args.self.now = c.in_ok-own.ensures {u = tt} in rw own at c.answer_blocks.ensures.err
+    let own : c.in_ok-own.own ≡ closed c.args.self.now = c.in_ok-own.ensures {u = tt} in rw own at c.answer_blocks_with.ensures.err
