@@ -52,9 +52,9 @@ class Cosets(Base):
 
         >>> graph = CoxeterGroup("E", 7).parabolic_W_graph("123456")
         >>> len(graph), graph["7"].descents, graph["7"].edges
-        (56, (7,), {(): 1, (6, 7): 1})
+        (56, (7,), {(): 1, (6, 7): 1, (7, 6, 5, 4, 2, 3, 4, 5, 6, 7): 1})
         >>> CoxeterGroup("a", 2).parabolic_W_graph([1, 2], kind="-1", below="123")["23"].descents
-        (1, 2)
+        (2, 3)
         """
         if below is None:
             if not self.is_finite():
