@@ -11,7 +11,9 @@ Each row is a question that has a long answer, or many short ones, asked in a pr
 - `cell order of E 6`: `cell_order("two-sided")`,
 - `mu of D 6`, `mu of S 8`: `mu_table()`,
 - `all P of D 5`: `kazhdan_lusztig_table()`,
-- `cosets of E 8`: the 2,160 shortest representatives of the cosets of D 7, by `coset_representatives`.
+- `cosets of E 8`: the 2,160 shortest representatives of the cosets of D 7, by `coset_representatives`,
+- `lengths of D 6, singly`, `lengths of D 6, map`: the lengths of its 23,040 elements, by `length` of each, and by `map`,
+- `pairs of S 6`: the 98,407 pairs of the rows of all elements, by `iter_kazhdan_lusztig_basis`.
 
 With --before the package in another folder, say the `python` of another checkout, runs in turn with that of this one. Each figure is the least of
 all runs: `seconds` of the clock, `Python` the processor time of the Python process alone, without that of the program, and `MB` the most memory
@@ -37,6 +39,9 @@ NAMES = {
     "mu of S 8": (("A", 7), "mu_table()", ["lwgraph"]),
     "all P of D 5": (("D", 5), "kazhdan_lusztig_table()", None),
     "cosets of E 8": (("E", 8), "coset_representatives([2, 3, 4, 5, 6, 7, 8])", None),
+    "lengths of D 6, singly": (("D", 6), "length(w) for w in elements", "length"),
+    "lengths of D 6, map": (("D", 6), 'map("length", elements)', "length"),
+    "pairs of S 6": (("A", 5), "iter_kazhdan_lusztig_basis(w) for w in elements", "klbasis"),
 }
 
 
@@ -47,19 +52,28 @@ def child(name, folder, program):
 
     kind, call, _ = NAMES[name]
     with coxeter_shell.CoxeterGroup(*kind, program=program) as W:
+        names = {"W": W, "elements": list(W.elements()) if "elements" in call else None}
         W.length("e")
         begun, used = time.monotonic(), time.process_time()
-        found = eval(f"W.{call}", {"W": W})
-        size = len(found) if hasattr(found, "__len__") else sum(1 for _ in found)
+        found = eval(f"(W.{call})", names)
+        size = len(found) if hasattr(found, "__len__") else sum(map(counted, found))
         took = time.monotonic() - begun, time.process_time() - used
     print(json.dumps([*took, resource.getrusage(resource.RUSAGE_SELF).ru_maxrss / 1024, size]))
 
 
+def counted(item):
+    """How many things an item is: those of an iterator, which is read to its end, and else one."""
+    return sum(1 for _ in item) if hasattr(item, "__next__") else 1
+
+
 def alone(name, program):
-    """How long the program alone takes for the same lines."""
+    """How long the program alone takes for the same lines. A command of one word is asked for each element."""
     (letter, rank), _, lines = NAMES[name]
     if lines is None:
         return None
+    if isinstance(lines, str):
+        asked = subprocess.run([program], input=f"type {letter} {rank}\nlwgraph\n".encode(), stdout=subprocess.PIPE, check=True)
+        lines = [f"{lines} {it.split()[0]}" for it in asked.stdout.decode("ascii").splitlines()[1:]]
     script = "\n".join([f"type {letter} {rank}", *lines, ""])
     begun = time.monotonic()
     subprocess.run([program], input=script.encode(), stdout=subprocess.DEVNULL, check=True)
@@ -82,7 +96,7 @@ def main():
     if given.before:
         folders = {"before": os.path.abspath(given.before), **folders}
     head = "".join(f"{f'{it} seconds':>17}{'Python':>9}{'MB':>7}" for it in folders)
-    print(f"{'':20}{head}{'program':>9}")
+    print(f"{'':23}{head}{'program':>9}")
     for name in NAMES:
         if given.only not in (None, name):
             continue
@@ -100,7 +114,7 @@ def main():
         for it in folders:
             seconds, used, memory = map(min, zip(*found[it]))
             row += f"{seconds:17.2f}{used:9.2f}{memory:7.0f}"
-        print(f"{name:20}{row}{'' if least[0] is None else f'{min(least):9.2f}'}", flush=True)
+        print(f"{name:23}{row}{'' if least[0] is None else f'{min(least):9.2f}'}", flush=True)
 
 
 main()

@@ -2,6 +2,7 @@
 import fcntl
 import os
 import re
+import shutil
 import subprocess
 import sys
 import termios
@@ -14,15 +15,17 @@ NOT_BUILT = (70, 127)
 
 
 def program(words, name="coxeter"):
-    """The program named by the script's arguments, else the one of this name that the launcher of this checkout runs, which it builds
-    first if need be. With --help the script says what it is for, and ends."""
+    """The program named by the script's arguments, else by the environment variable COXETER or COXCHECK, else the one of this name that the
+    launcher of this checkout runs, which it builds first if need be. With --help the script says what it is for, and ends."""
     if words in (["-h"], ["--help"]):
         print(sys.modules["__main__"].__doc__.strip())
         sys.exit(0)
-    if words:
-        if not os.access(words[0], os.X_OK):
-            sys.exit(f"there is no program {words[0]}")
-        return os.path.abspath(words[0])
+    named = words[0] if words else os.environ.get(name.upper())
+    if named:
+        found = shutil.which(named)
+        if found is None:
+            sys.exit(f"there is no program {named}")
+        return os.path.abspath(found)
     launcher = os.path.join(TOP, name)
     if not os.path.exists(launcher):
         sys.exit(f"there is no program {name} in this checkout")

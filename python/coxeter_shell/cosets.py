@@ -1,11 +1,14 @@
-"""Rows of Deodhar's parabolic Kazhdan-Lusztig polynomials, by his recursion on cosets alone."""
+"""Rows of Deodhar's parabolic Kazhdan-Lusztig polynomials, by his recursion on cosets alone, and the W-graphs that they make."""
 from __future__ import annotations
 
-from typing import Any, Dict, List, Optional, Set
+import array
+from typing import Any, Dict, List, Optional, Set, Tuple
 
 from .base import Base, Element, Letters, Word
+from .graphs import WGraph
+from .parts import cells_of
 from .polynomial import Polynomial
-from .tables import ElementDict
+from .tables import Cells, ElementDict
 from .texts import shortlex
 
 # A polynomial in q is its value at q = 2^BITS here. Its coefficients are at most 2^l(v) for an element v, since each letter of v at most doubles
@@ -32,14 +35,52 @@ class Cosets(Base):
         >>> len(row), set(row.values())
         (18, {0, 1})
         """
-        letters, v = self._letters_of(letters), self.normal_form(v)
+        v = self.normal_form(v)
+        rows = self._parabolic_rows(v, letters, kind)
+        found = rows.row(v)
+        return ElementDict(self, ((u, read(found.get(u, 0))) for u in rows.elements), "polynomial")
+
+    def parabolic_W_graph(self, letters: Letters, kind: str = "q", below: Optional[Word] = None) -> WGraph:
+        """The W-graph of Deodhar's module on the cosets uW_J, for left descents. Each coset stands there as its shortest element; x < y are
+        joined where the coefficient of their polynomial in degree (l(y) - l(x) - 1) / 2 is not 0, which is the value of the edge. The
+        descents of u are the letters s with su < u; for the kind "-1" those with suW_J = uW_J are among them.
+
+        Of the kind "q" it is the part of the W-graph of the group that the shortest elements of the cosets make, and of the kind "-1" that
+        of their longest elements, where W_J is finite (Deodhar 1987; Howlett and Yin 2003, "Inducing W-graphs"). With `below` it is the
+        part of the cosets of the u <= v, where v is that element, the shortest of its coset; the group may be infinite then. The package
+        makes it of the rows of `parabolic_kazhdan_lusztig_basis`, and it is not proved.
+
+        >>> graph = CoxeterGroup("E", 7).parabolic_W_graph("123456")
+        >>> len(graph), graph["7"].descents, graph["7"].edges
+        (56, (7,), {(): 1, (6, 7): 1, (7, 6, 5, 4, 2, 3, 4, 5, 6, 7): 1})
+        >>> CoxeterGroup("a", 2).parabolic_W_graph([1, 2], kind="-1", below="123")["23"].descents
+        (2, 3)
+        """
+        if below is None:
+            if not self.is_finite():
+                raise ValueError("the group is infinite: say below which element")
+            v = self.product(self.long_element(), self._longest_of(self._letters_of(letters)))
+        else:
+            v = self.normal_form(below)
+        return self._parabolic_rows(v, letters, kind).graph()
+
+    def parabolic_cells(self, letters: Letters, kind: str = "q", below: Optional[Word] = None) -> Cells:
+        """The list of the cells of that W-graph, each the list of its elements. Of the kind "q" each is a left cell of the group, where there is no
+        `below`, and of the kind "-1" it has the shortest elements of the cosets of one. They are not proved.
+
+        >>> [len(cell) for cell in CoxeterGroup("E", 6).parabolic_cells("12345")]
+        [1, 6, 20]
+        """
+        return Cells(self, cells_of([self.parabolic_W_graph(letters, kind, below)]))
+
+    def _parabolic_rows(self, v, letters, kind):
+        """The rows of the cosets of the u <= v."""
+        letters = self._letters_of(letters)
         if kind not in ("q", "-1"):
             raise ValueError(f'the kind is "q" or "-1", not {kind!r}')
         if not letters.isdisjoint(self.right_descents(v)):
             raise ValueError(f"{self.text(v)} is not the shortest element of its coset")
-        rows = ParabolicRows(self, v, letters, kind)
-        found = rows.row(v)
-        return ElementDict(self, ((u, read(found.get(u, 0))) for u in rows.elements), "polynomial")
+        return ParabolicRows(self, v, letters, kind)
 
 
 class ParabolicRows:
@@ -85,14 +126,37 @@ class ParabolicRows:
             assert before is not None
             shorter = self.row(before)
             row = self.times(s, shorter)
-            for z, p in shorter.items():
-                degree, odd = divmod(len(before) - len(z) - 1, 2)
-                value = p >> degree * BITS if not odd and degree >= 0 else 0
-                if value and self.is_descent(s, z):
+            for z, value in self.leading(before):
+                if self.is_descent(s, z):
+                    degree = (len(v) - len(z)) // 2
                     for u, more in self.row(z).items():
-                        row[u] -= value * more << (degree + 1) * BITS
+                        row[u] -= value * more << degree * BITS
             self.rows[v] = {u: p for u, p in row.items() if p}
         return self.rows[v]
+
+    def leading(self, v: Element) -> List[Tuple[Element, int]]:
+        """The u < v with a polynomial of the highest degree that there may be, and its coefficient."""
+        found = []
+        for u, p in self.row(v).items():
+            degree, odd = divmod(len(v) - len(u) - 1, 2)
+            value = p >> degree * BITS if not odd and degree >= 0 else 0
+            if value:
+                found.append((u, value))
+        return found
+
+    def graph(self) -> WGraph:
+        """The W-graph of all these cosets."""
+        places = {u: at for at, u in enumerate(self.elements)}
+        near: List[List[int]] = [[] for _ in places]
+        other: Dict[Tuple[int, int], int] = {}
+        for y, at in places.items():
+            for x, value in self.leading(y):
+                near[at].append(places[x])
+                near[places[x]].append(at)
+                if value != 1:
+                    other[at, places[x]] = other[places[x], at] = value
+        descents = [tuple(s for s in self.moved if self.is_descent(s, u)) for u in self.elements]
+        return WGraph(self.group, "left", self.elements, descents, [array.array("I", sorted(it)) for it in near], other)
 
     def times(self, s: int, row: Dict[Element, int]) -> Dict[Element, int]:
         """C'(s) times a self-dual element."""

@@ -104,10 +104,10 @@ class WGraph(Drawn, Table):
         True
         """
         unread = Edges(group._spelling, list(items))
-        elements = [group._spelling.element(it) for it, _ in unread.heads]
+        elements = list(map(group._spelling.element, unread.elements))
         check_rising(elements)
-        sets = {text: group._spelling.letter_set(text) for text in {it for _, it in unread.heads}}
-        graph = cls(group, side, elements, [sets[it] for _, it in unread.heads], [], {})
+        sets = {text: group._spelling.letter_set(text) for text in set(unread.labels)}
+        graph = cls(group, side, elements, list(map(sets.__getitem__, unread.labels)), [], {})
         graph._unread = unread
         return graph
 

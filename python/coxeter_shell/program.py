@@ -92,9 +92,9 @@ class Program:
         self._owner: Optional[int] = None
         self._sent = 0  # bytes
         self._asked = ""  # the last question
-        self._unread: Any = None  # a weak reference to its answer, until that is read to its end
+        self._unread: Any = None  # what gives its answer, as a weak reference does, until that is read to its end
         self._marks = 0  # so many are still to come then
-        self._last: Any = None  # a weak reference to the answer to the last question, which may have lines that nobody took
+        self._last: Any = None  # a weak reference to that answer, where it may have lines that nobody took
         # Whether the group is set, and whether it is known what comes next from the process: an interrupt may come anywhere.
         self._begun = self._sure = False
         self._checksum: Any = None  # that of the process, with the process
@@ -106,8 +106,18 @@ class Program:
 
     def ask(self, line: str) -> List[str]:
         """The lines of the answer to a line: none where `type`, `matrix` or a blank line is accepted."""
+        words = check_line(line)
         with self._lock:
-            return self.stream(line).rest()
+            limit = Limit(line, self.timeout)
+            self._start(MOST_OF_LINE, limit)
+            [lines] = self._exchange(line, line, 1, limit)
+            number = self.refusal(lines, line)
+            if number is not None:
+                raise Refusal(number, line)
+            if words and words[0] in ("type", "matrix"):
+                self._none(line, lines)
+                self.group = line
+            return lines
 
     def stream(self, line: str) -> Answer:
         """The lines of the answer to a line, as an iterator that reads them when they are needed."""
@@ -117,7 +127,7 @@ class Program:
             self._start(MOST_OF_LINE, limit)
             answer = self._question(line, limit)
             if words and words[0] in ("type", "matrix"):
-                self._none(answer)
+                self._none(line, answer)
                 self.group = line
             limit.rest()
             return answer
@@ -144,13 +154,13 @@ class Program:
             self._start(len(text), limit)
             # Without a group, or in a program that has no lists, each line would be answered before the next is read. So an empty
             # list is tried first, which has no answer.
-            [said] = self._exchange("jobs\nend", 1, limit)
+            [said] = self._exchange("jobs\nend", "jobs", 1, limit)
             if said:
                 number = self.refusal(said[:1], "jobs")
                 if number is None:
                     self.unexpected("jobs", said, "nothing should have come")
                 raise Refusal(number, "jobs")
-            *answers, said = self._exchange(text, sum(map(len, listed)) + 1, limit)
+            *answers, said = self._exchange(text, "jobs", sum(map(len, listed)) + 1, limit)
             if said:
                 self.unexpected("jobs", said, "the list should have as many answers as lines")
         left = iter(answers)
@@ -194,10 +204,10 @@ class Program:
                 self.close()
         if self._process is None:
             self._spawn()
-            self._none(self._question("", limit))
+            self._none("", self._question("", limit))
             if self.group is not None:
                 try:
-                    self._none(self._question(self.group, limit))
+                    self._none(self.group, self._question(self.group, limit))
                 except Refusal:
                     self.close()
                     raise
@@ -267,41 +277,42 @@ class Program:
     def _question(self, line, limit):
         """Sends a question and the mark behind it. Reads the first line of the answer, and raises it if it's a refusal."""
         answer = Answer(self, line, limit)
-        self._send(line, answer, 1, limit)
+        self._last = weakref.ref(answer)
+        self._send(line, line, self._last, 1, limit)
         answer.begin()
         return answer
 
-    def _exchange(self, text, marks, limit):
-        """Sends lines, the first of which is `jobs`, and gives what comes before each of so many marks."""
-        answer = Answer(self, "jobs", limit)
-        self._send(text, answer, marks, limit)
+    def _exchange(self, text, line, marks, limit):
+        """Sends a question, or a list of jobs, whose `line` is `jobs`, and gives what comes before each of so many marks."""
+        self._last = None
+        self._send(text, line, nobody, marks, limit)
         found = []
         while len(found) < marks:
             lines = []
             while not self.read(lines, limit, first=not (found or lines)):
                 pass
             found.append(lines)
-            if found == [[TOO_LONG]]:
+            if found == [[TOO_LONG]] and line == "jobs":
                 # The list as a whole is refused, and no other mark comes.
                 self._unread = None
                 raise Refusal(35, "jobs")
         return found
 
-    def _send(self, text, answer, marks, limit):
-        """Sends lines and a mark behind them. What comes up to the last of so many marks is the answer."""
+    def _send(self, text, line, answer, marks, limit):
+        """Sends a question and a mark behind it. What comes up to the last of so many marks is the answer, which `answer` gives, or None."""
         data = f"{text}\n{MARK}\n".encode("ascii")
         self._sure = False
-        self._asked = answer.line
-        self._unread = self._last = weakref.ref(answer)
+        self._asked = line
+        self._unread = answer
         self._marks = marks
         self._sent += len(data)
         with Awaiting(self, limit):
             try:
                 self._lines.send(data, limit.until)
             except OSError:
-                told = self._told(answer.line, limit)
+                told = self._told(line, limit)
                 if told:
-                    self.unexpected(answer.line, told, "")
+                    self.unexpected(line, told, "")
                 raise
         self._sure = True
 
@@ -315,10 +326,10 @@ class Program:
         except (EOFError, Late, OSError):
             return ""
 
-    def _none(self, answer):
+    def _none(self, question, answer):
         """Sees to it that an answer has no line."""
         for line in answer:
-            self.unexpected(answer.line, line, "nothing should have come")
+            self.unexpected(question, line, "nothing should have come")
 
     def _read_rest(self, limit):
         """Reads what is left of the last answer: into its iterator, unless that is gone."""
@@ -546,11 +557,18 @@ def check_characters(line):
     """The parts of a line. Refuses one that is too long, or has a wrong byte, by the number that the program would refuse it by."""
     if not isinstance(line, str):
         raise TypeError(f"a line is a text, and not {line!r}")
+    if line.isascii() and line.isprintable() and len(line) <= MOST_OF_LINE:
+        return line.split()
     if len(line) > MOST_OF_LINE or len(line.encode("utf-8", "surrogatepass")) > MOST_OF_LINE:
         raise Refusal(18, line)
     if NO_CHARACTER.search(line):
         raise Refusal(19, line)
     return line.split()
+
+
+def nobody():
+    """The answer that is kept for nobody."""
+    return None
 
 
 def check_interpreter(path):

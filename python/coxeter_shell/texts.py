@@ -28,6 +28,8 @@ class Spelling:
         self.dot = "." if rank > 9 else ""
         self.values = {str(letter): letter for letter in range(1, rank + 1)}
         self.texts = {letter: text for text, letter in self.values.items()}
+        # Where each letter is one character: for each byte the letter that it is, or 0.
+        self.bytes = bytes(self.values.get(chr(it), 0) for it in range(256))
         self.elements = Known(self._element)
         self.pairs = Known(self._pair)
         # What reads the text of an element, and that of an element and a polynomial.
@@ -67,9 +69,13 @@ class Spelling:
 
     def letters(self, text):
         """The letters of a text."""
-        pieces = text.split(self.dot) if self.dot else text
+        if not self.dot:
+            found = tuple(text.encode("ascii", "replace").translate(self.bytes))
+            if 0 in found:
+                raise ValueError(f"{text[found.index(0)]!r} is no letter of the group")
+            return found
         try:
-            return tuple(map(self.values.__getitem__, pieces))
+            return tuple(map(self.values.__getitem__, text.split(self.dot)))
         except KeyError as piece:
             raise ValueError(f"{piece} is no letter of the group") from None
 

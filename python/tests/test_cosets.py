@@ -1,4 +1,5 @@
 """Rows of parabolic polynomials, compared with the definition, alternating sums, and what is known of Grassmannians and their kin."""
+import functools
 import itertools
 import random
 import unittest
@@ -100,6 +101,104 @@ class Rows(unittest.TestCase):
             for v, letters, kind in (("1", [1], "q"), ("2", [4], "q"), ("2", [1], "both"), ("2", [1], -1)):
                 with self.assertRaises(ValueError):
                     group.parabolic_kazhdan_lusztig_basis(v, letters, kind=kind)
+
+
+def moved(graph, group, longest):
+    """The vertices of a graph, each times an element on the right: the descents and edges by them."""
+    names = {x: group.product(x, longest) for x in graph}
+    return {names[x]: (graph[x].descents, {names[y]: value for y, value in graph[x].edges.items()}) for x in graph}
+
+
+def hecke_matrix(graph, s):
+    """How T_s acts on the module of a W-graph at q = 4, as v C'(s) - 1 with v = 2."""
+    places = {x: at for at, x in enumerate(graph)}
+    matrix = [[0] * len(graph) for _ in graph]
+    for x, at in places.items():
+        if s in graph[x].descents:
+            matrix[at][at] = 4
+        else:
+            matrix[at][at] = -1
+            for y, value in graph[x].edges.items():
+                if s in graph[y].descents:
+                    matrix[places[y]][at] = 2 * value
+    return matrix
+
+
+def product(one, two):
+    columns = list(zip(*two))
+    return [[sum(a * b for a, b in zip(row, column) if a and b) for column in columns] for row in one]
+
+
+class WGraphs(unittest.TestCase):
+    def test_part_of_the_whole(self):
+        """Of the kind q it is that of the shortest elements in the W-graph of the group, which is proved; and of the kind -1 that of the longest
+        ones. Those cells are left cells; which they are depends on the right descents of their elements."""
+        for kind in ("A 3", "B 3", "G 2", "A1xA2"):
+            with CoxeterGroup(kind) as group:
+                whole, left = group.W_graph(), group.left_cells()
+                for k in range(group.rank + 1):
+                    for letters in itertools.combinations(range(1, group.rank + 1), k):
+                        shortest = list(group.coset_representatives(letters))
+                        self.assertEqual(group.parabolic_W_graph(letters), whole.part(shortest))
+                        longest = group._longest_of(set(letters))
+                        graph = group.parabolic_W_graph(letters, kind="-1")
+                        part = whole.part([group.product(x, longest) for x in shortest])
+                        self.assertEqual(moved(graph, group, longest), moved(part, group, ()))
+                        self.assertEqual(group.parabolic_cells(letters), [it for it in left if it[0] in shortest])
+                        of_longest = [set(it) for it in left if set(letters) <= set(group.right_descents(it[0]))]
+                        cells = group.parabolic_cells(letters, kind="-1")
+                        self.assertCountEqual([{group.product(x, longest) for x in it} for it in cells], of_longest)
+
+    def test_modules(self):
+        """The matrices of a W-graph satisfy the relations of the Hecke algebra."""
+        for kind, letters in (("B 4", "234"), ("D 4", "13"), ("E 6", "12345"), ("A 4", "24")):
+            with CoxeterGroup(kind) as group:
+                for name in ("q", "-1"):
+                    graph = group.parabolic_W_graph(letters, name)
+                    acts = {s: hecke_matrix(graph, s) for s in range(1, group.rank + 1)}
+                    for s, t in itertools.combinations(acts, 2):
+                        one, two = [acts[s], acts[t]], [acts[t], acts[s]]
+                        for k in range(2, group.coxeter_matrix()[s - 1][t - 1]):
+                            one, two = [*one, (one[0], two[0])[k % 2]], [*two, (two[0], one[0])[k % 2]]
+                        self.assertEqual(functools.reduce(product, one), functools.reduce(product, two))
+
+    def test_known_cells(self):
+        """E 6 over D 5 and E 7 over E 6 are sums of different special characters, each in a family of its own: so these are the cells."""
+        for kind, letters, sizes in (("E 6", "12345", [1, 6, 20]), ("E 7", "123456", [1, 7, 21, 27]), ("A 6", "12345", [1, 6])):
+            with CoxeterGroup(kind) as group:
+                for name in ("q", "-1"):
+                    self.assertEqual(sorted(map(len, group.parabolic_cells(letters, name))), sizes)
+
+    def test_projective_spaces(self):
+        """S n over S (n-1): a path, whose vertex of length k has the descent k from the last letter on."""
+        with CoxeterGroup("A", 5) as group:
+            graph = group.parabolic_W_graph("1234")
+            self.assertEqual([graph[x].descents for x in graph], [(), (5,), (4,), (3,), (2,), (1,)])
+            self.assertEqual([(len(x), len(y), value) for x, y, value in graph.edges()], [(k, k + 1, 1) for k in range(5)])
+
+    def test_below(self):
+        """The part of the whole; and in an infinite group that of the shortest elements below, whose W-graph is made of rows in another way."""
+        with CoxeterGroup("D", 4) as group:
+            for name in ("q", "-1"):
+                whole = group.parabolic_W_graph("124", name)
+                for v in list(whole)[3::9]:
+                    graph = group.parabolic_W_graph("124", name, below=v)
+                    self.assertEqual(list(graph), [x for x in whole if group.bruhat_le(x, v)])
+                    self.assertEqual(graph, whole.part(graph))
+        for kind, letters, v in (("a 2", "12", "123123"), ("c 2", "23", "12321321"), ("matrix 3 0 3 3", "12", "123213")):
+            with CoxeterGroup(kind) as group:
+                v = group.parabolic_decomposition(v, letters)[0]
+                graph = group.parabolic_W_graph(letters, below=v)
+                self.assertEqual(graph, group.W_graph_below(v).part(graph))
+                self.assertGreater(len(graph), 3)
+                self.assertEqual(sorted(sum(group.parabolic_cells(letters, below=v), []), key=lambda x: (len(x), x)), list(graph))
+
+    def test_arguments(self):
+        with CoxeterGroup("a", 2) as group:
+            for letters, more in (("12", {}), ("12", {"below": "1"}), ("12", {"below": "3", "kind": "both"}), ("4", {"below": "3"})):
+                for call in (group.parabolic_W_graph, group.parabolic_cells):
+                    with self.assertRaises(ValueError):
+                        call(letters, **more)
 
 
 if __name__ == "__main__":

@@ -334,7 +334,8 @@ class Finding(unittest.TestCase):
             checkout, tools, elsewhere = (os.path.join(base, name) for name in ("checkout", "tools", "elsewhere"))
             package = os.path.join(checkout, "python")
             for top in (package, elsewhere):
-                shutil.copytree(PACKAGE, os.path.join(top, "coxeter_shell"))
+                # Without the programs of a wheel, which are found before others.
+                shutil.copytree(PACKAGE, os.path.join(top, "coxeter_shell"), ignore=shutil.ignore_patterns("programs"))
             os.makedirs(tools)
             shutil.copy(fake, os.path.join(tools, "coxeter"))
             path = {"PATH": f"{tools}:/usr/bin:/bin"}

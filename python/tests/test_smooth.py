@@ -1,12 +1,15 @@
-"""Smooth Schubert varieties, and rationally smooth ones, compared with published numbers, patterns and tangent spaces."""
+"""Smooth Schubert varieties, and rationally smooth ones, compared with published numbers, patterns, tangent spaces, and what is reckoned here of
+signed permutations."""
+import functools
 import itertools
+import math
 import unittest
 
 import reference
 from coxeter_shell import CoxeterGroup
 
 # How many of the varieties are smooth, and how many rationally smooth (Richmond and Slofstra 2017, "Staircase diagrams and enumeration of
-# smooth Schubert varieties"); in G 2 all are rationally smooth.
+# smooth Schubert varieties"; Billey and Postnikov 2005 for G 2). The numbers are reckoned here too.
 COUNTS = {
     "A 3": (22, 22),
     "A 4": (88, 88),
@@ -17,17 +20,107 @@ COUNTS = {
     "B 4": (116, 142),
     "C 4": (114, 142),
     "D 4": (108, 108),
+    "G 2": (7, 12),
 }
+
+# Rational functions are compared by their values at a point, modulo a prime number.
+PRIME = 2**61 - 1
+POINT = (271828182845904523, 141421356237309504, 314159265358979323, 173205080756887729, 161803398874989484)
+
+
+def plane(*entries):
+    """A root by its coordinates, with zeros behind them."""
+    return entries + (0,) * (len(POINT) - len(entries))
+
+
+def signed(*images):
+    """A signed permutation, which takes the coordinate k to the one of this number, with its sign. Further coordinates stay."""
+    return images + tuple(range(len(images) + 1, len(POINT) + 1))
+
+
+def compose(v, w):
+    return tuple(v[abs(k) - 1] * (1 if k > 0 else -1) for k in w)
+
+
+def simple(letter, n):
+    """The simple roots of a type in Bourbaki's coordinates, each with its reflection. In the plane of G 2, where the sum of the coordinates is 0,
+    that of the long root is minus an exchange."""
+    if letter == "G":
+        return [(plane(1, -1, 0), signed(2, 1, 3)), (plane(-2, 1, 1), signed(-1, -3, -2))]
+    size = n + (letter == "A")
+    found = []
+    for k in range(1, size):
+        root, images = [0] * size, list(range(1, size + 1))
+        root[k - 1], root[k] = 1, -1
+        images[k - 1], images[k] = k + 1, k
+        found.append((plane(*root), signed(*images)))
+    if letter in "BC":
+        found.append((plane(*[0] * (n - 1), 1 if letter == "B" else 2), signed(*range(1, n), -n)))
+    if letter == "D":
+        found.append((plane(*[0] * (n - 2), 1, 1), signed(*range(1, n - 1), -n, 1 - n)))
+    return found
+
+
+def value(v, root):
+    """The value of v(root) at the point."""
+    return sum(entry * POINT[abs(k) - 1] * (1 if k > 0 else -1) for k, entry in zip(v, root)) % PRIME
+
+
+def reckoned(letter, n):
+    """The reduced words of the elements whose varieties are smooth, by Kumar 1996, and of those whose varieties are rationally smooth: the
+    number of elements below them of each length is a palindrome (Carrell and Peterson 1994). What is below is what subwords give."""
+    letters = simple(letter, n)
+    words, todo = {signed(): ()}, [signed()]
+    for v in todo:
+        for s, (_, turned) in enumerate(letters, 1):
+            if compose(v, turned) not in words:
+                words[compose(v, turned)] = (*words[v], s)
+                todo.append(compose(v, turned))
+    # The root of a reflection is positive where the reflection's element makes one of a simple root without making that longer.
+    roots = {}
+    for v, word in words.items():
+        for s, (root, turned) in enumerate(letters, 1):
+            if len(words[compose(v, turned)]) > len(word):
+                inverse = functools.reduce(compose, (letters[t - 1][1] for t in reversed(word)), signed())
+                roots[compose(compose(v, turned), inverse)] = value(v, root)
+    smooth, rationally = set(), set()
+    for word in words.values():
+        coefficients = {signed(): 1}
+        for s in word:
+            root, turned = letters[s - 1]
+            found = {}
+            for v, c in coefficients.items():
+                share = c * inverse_of(value(v, root)) % PRIME
+                for u, more in ((compose(v, turned), share), (v, -share)):
+                    found[u] = (found.get(u, 0) + more) % PRIME
+            coefficients = found
+        lengths = [len(words[v]) for v in coefficients]
+        betti = [lengths.count(k) for k in range(len(word) + 1)]
+        if betti == betti[::-1]:
+            rationally.add(word)
+        below = math.prod([r for t, r in roots.items() if t in coefficients])
+        if (coefficients[signed()] * below * (-1) ** len(word) - 1) % PRIME == 0:
+            smooth.add(word)
+    return smooth, rationally
+
+
+@functools.lru_cache(maxsize=None)
+def inverse_of(number):
+    return pow(number, -1, PRIME)
 
 
 class Smooth(unittest.TestCase):
     def test_numbers(self):
-        for kind, (smooth, rationally) in COUNTS.items():
+        """Those of Richmond and Slofstra, and which ones they are, as it is reckoned here."""
+        for kind, numbers in COUNTS.items():
             with self.subTest(kind), CoxeterGroup(kind) as group:
                 elements = list(group.elements())
                 found = {w for w in elements if group.is_smooth(w)}
                 of_rows = {w for w in elements if group.is_rationally_smooth(w)}
-                self.assertEqual((len(found), len(of_rows), found <= of_rows), (smooth, rationally, True))
+                self.assertEqual((len(found), len(of_rows), found <= of_rows), (*numbers, True))
+                smooth, rationally = reckoned(kind[0], int(kind[2:]))
+                self.assertEqual(found, set(map(group.normal_form, smooth)))
+                self.assertEqual(of_rows, set(map(group.normal_form, rationally)))
                 # The variety of w^-1 is the same in G, turned round.
                 self.assertEqual({group.inverse(w) for w in found}, found)
 
