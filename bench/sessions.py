@@ -103,9 +103,9 @@ class Group:
         return words[:count]
 
     def climb(self, length, chance):
-        """The word of an element of this length, by letters at random that lengthen."""
+        """The word of an element of this length, by letters at random that lengthen; of the longest element where that is shorter."""
         heights, letters = self.identity, 0
-        while letters < length:
+        while letters < length and any(h > 0 for h in heights):
             s = chance.randrange(self.rank)
             if heights[s] > 0:
                 heights, letters = self.shifted(heights, s), letters + 1
