@@ -17,8 +17,9 @@ out what the clauses of that function unfold to. CRATE::NAME is any function of 
 
 With `--command` it prints what is proved of one command, say `pol`: its clause of the law `commands` in crates/cox_laws/src/laws.rt. Then
 come the lines that a reader of that has to believe: of the mathematics that the answer is, of its text, and of its refusals, with the tokens
-of a line and the words that they read as, each part counted, and each line in one part alone. With `--commands` it prints that of all commands together, each line once and each
-file behind those that it needs: the mathematics, the clauses of the law, the texts and the refusals.
+of a line and the words that they read as, each part counted, and each line in one part alone. With `--commands` it prints that of all commands together, each line once: the
+mathematics by the steps of docs/PROVED.md, the texts, the refusals, and then the clauses of the law, so that all that a line needs stands
+above it.
 `--write` puts these counts into the table at the head of docs/PROVED.md, and those of `run` and `check` into docs/DEFINITIONS.md and
 README.md; checks/documents.py fails where they are others.
 
@@ -46,7 +47,11 @@ class Item:
         self.name, self.lines, self.comments, self.constructors = name, [], comments, []
 
     def text(self):
-        return "\n".join(self.lines)
+        """Its lines, in which the constructors of data do not stand as names of other things."""
+        lines = self.lines
+        if self.constructors:
+            lines = [re.sub(rf"^\s+{NAME}\s*:", "", line) for line in lines]
+        return "\n".join(lines)
 
 
 class File:
@@ -186,7 +191,9 @@ def names_in(text):
     """The names of a text, with those that stand behind an alias and a dot."""
     text = re.sub(r'"[^"]*"', "", text)
     text = re.sub(r"--.*$", "", text, flags=re.M)
-    return set(re.findall(NAME, text)) | set(re.findall(r"\w+\.\w+", text))
+    behind_dots = set(re.findall(r"\w+\.\w+", text))
+    # What stands behind a value and a dot is a part of it, as in `limits.roots`, whatever else has that name.
+    return set(re.findall(NAME, re.sub(rf"\b([a-z]\w*)(?:\.{NAME})+", r"\1", text))) | behind_dots
 
 
 def follow(files, starts, left=frozenset()):
@@ -298,16 +305,21 @@ def print_command(files, name):
     """Prints the lines of one command, part by part and file by file."""
     lines, parts = of_command(files, name)
     own, *counts = count_of(files, name)
-    print(f"What is proved of `{name}`:\n")
-    print("\n".join(lines))
     for part, count in zip(PARTS, counts):
         print(f"\n==== {part}: {count} lines")
-        for path in files:
-            if parts[part][path]:
-                print(f"\n-- {place(path).replace('.', '/specs/')}.antt")
-                for item in parts[part][path]:
-                    print("\n".join(item.comments + item.lines))
+        print_files(files, parts[part], in_reading_order(files, part, parts[part]))
+    print(f"\n==== what is proved of `{name}`: {own} lines\n")
+    print("\n".join(lines))
     print(f"\n{own} lines of what is proved, " + ", ".join(f"{count} of {part}" for part, count in zip(PARTS, counts)))
+
+
+def print_files(files, found, paths):
+    """Prints the items that were found in these files, each with the comment above it."""
+    for path in paths:
+        items = [item for item in files[path].all if item in found[path]]
+        print(f"\n-- {place(path).replace('.', '/specs/')}.antt: {sum(len(item.lines) for item in items)} lines")
+        for item in items:
+            print("\n".join(item.comments + item.lines))
 
 
 def of_all(files):
@@ -336,22 +348,58 @@ def in_order(files, paths):
     return ordered
 
 
+def steps():
+    """The steps of the mathematics at the head of docs/PROVED.md: what each is about, and the files to read, by the paths of `use` lines."""
+    with open(os.path.join(TOP, "docs", "PROVED.md"), encoding="utf-8") as document:
+        rows = re.findall(r"^\| ([0-9]+) \| (.*?) \| (`\w+`: .*?) \| ([0-9]+) \|", document.read(), re.M)
+    for number, about, told, lines in rows:
+        paths = []
+        for crate, names in re.findall(r"`(\w+)`: ((?:`\w+`(?:, )?)+)", told):
+            paths += [f"Rattle.{crate}.specs.{name}" for name in re.findall(r"`(\w+)`", names)]
+        yield number, about, paths, int(lines)
+
+
+def in_reading_order(files, part, found):
+    """The files with items of a part, in the order in which to read them: those of the mathematics by the steps, others each behind those
+    that it needs."""
+    paths = {path for path, items in found.items() if items}
+    if part != "mathematics":
+        return in_order(files, paths)
+    return [path for _, _, listed, _ in steps() for path in listed if path in paths]
+
+
+def wrong_steps(files):
+    """What is wrong with the steps: a file of the mathematics that stands in none of them, or in two, or before one that it needs; a file
+    that is not of the mathematics; and how many lines a step has."""
+    found = of_all(files)["mathematics"]
+    listed = [path for _, _, paths, _ in steps() for path in paths]
+    wanted = {path for path, items in found.items() if items}
+    wrong = [f"no step has {place(path)}" for path in sorted(wanted - set(listed))]
+    wrong += [f"{place(path)} is in a step, and no command needs it" for path in sorted(set(listed) - wanted)]
+    wrong += [f"two steps have {place(path)}" for path in sorted({path for path in listed if listed.count(path) > 1})]
+    for at, path in enumerate(listed):
+        needed = {other for item in found[path] for name in names_in(item.text()) for other, _ in [files[path].imports.get(name, ("", ""))]}
+        wrong += [f"{place(path)} stands before {place(it)}, which it needs" for it in listed[at + 1 :] if it in needed and it not in listed[:at]]
+    for number, _, paths, lines in steps():
+        count = size({path: found[path] for path in paths})
+        wrong += [f"step {number} has {count} lines, and not {lines}"] * (count != lines)
+    return [f"docs/PROVED.md: {it}" for it in wrong]
+
+
 def print_commands(files):
-    """Prints the lines of all commands, part by part and file by file."""
+    """Prints the lines of all commands: the mathematics step by step, then texts and refusals, and what each command is answered."""
     parts = of_all(files)
-    for part in PARTS:
-        paths = in_order(files, {path for path, items in parts[part].items() if items})
+    print(f"\n==== mathematics: {size(parts['mathematics'])} lines")
+    for number, about, paths, lines in steps():
+        print(f"\n==== step {number}: {about.replace('**', '')}: {lines} lines")
+        print_files(files, parts["mathematics"], paths)
+    for part in PARTS[1:]:
         print(f"\n==== {part}: {size(parts[part])} lines")
-        for path in paths:
-            items = [item for item in files[path].all if item in parts[part][path]]
-            print(f"\n-- {place(path).replace('.', '/specs/')}.antt: {sum(len(item.lines) for item in items)} lines")
-            for item in items:
-                print("\n".join(item.comments + item.lines))
-        if part == "mathematics":
-            told = [sentence(files, name)[0] for name in commands(files)]
-            print(f"\n==== what each command is answered: {sum(map(len, told))} lines")
-            for lines in told:
-                print("\n" + "\n".join(lines))
+        print_files(files, parts[part], in_reading_order(files, part, parts[part]))
+    told = [sentence(files, name)[0] for name in commands(files)]
+    print(f"\n==== what each command is answered: {sum(map(len, told))} lines")
+    for lines in told:
+        print("\n" + "\n".join(lines))
 
 
 def size(items):
@@ -449,7 +497,7 @@ def told(files):
     mathematics, text, refusals = known["parts"]
     own_lines = sum(own for own, *_ in known["commands"].values())
     path = "docs/PROVED.md"
-    put(path, "reads ", mathematics, " lines of definitions")
+    put(path, "reads ", mathematics, " lines of mathematics")
     put(path, "and the ", own_lines, " lines of the law")
     put(path, "The texts of the answers are ", text, " lines more")
     put(path, "the refusals, with how a line is read, ", refusals, ", of which")

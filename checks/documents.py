@@ -425,6 +425,8 @@ def definitions(problems, crates):
 def counts(problems, crates):
     """What documents say of the lines that have to be believed."""
     files = believed.specs([os.path.join(TOP, "crates", it) for it in sorted(crates)])
+    for wrong in believed.wrong_steps(files):
+        problems.want(False, wrong)
     for name, places in sorted(believed.twins(files).items()):
         problems.want(False, f"{DEFINITIONS}: {name} stands for two things, in {' and '.join(places)}")
     shared = re.search(r"Constructors may:.*?\n\n", read(DEFINITIONS), re.S)
