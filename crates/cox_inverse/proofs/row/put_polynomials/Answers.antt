@@ -7,7 +7,7 @@ use Rattle.cox_inverse.specs.NumberedInverses.{number_before}
 use Rattle.cox_inverse.proofs.LastMembers.{last-top}
 use Rattle.cox_inverse.proofs.LastInverses.{inverses-none, inverses-push, inverses-keep, inverses-more, sums-fault, top-value}
 use Rattle.cox_inverse.proofs.SummedMembers.{read-number}
-use Rattle.cox_inverse.proofs.row.all_polynomials.Goals as goal
+use Rattle.cox_inverse.proofs.row.put_polynomials.Goals as goal
 
 pub returns-in-Err-clause-fault : goal.returns-in-Err-clause-fault
 returns-in-Err-clause-fault g c =
@@ -27,14 +27,8 @@ push_reserved-requires g c =
     let top = last-top c.args.ctx.now c.len-len.ensures.admissible c.len-len.ensures.closed c.args.interval.now.bottom
     c.args.interval.now.top c.requires.interval.top_member c.args.interval.now.members.items
     c.requires.interval.between c.requires.below
-    in omega (
-      arith,
-      top.0,
-      c.len.ensures,
-      c.in_ok-polynomials.ensures.len,
-      c.in_ok-polynomials.ensures.capacity,
-      c.args.interval.now.members.ok,
-    )
+    in let empty : length c.args.polynomials.now.items ≡ 0 = rw c.requires.none refl
+    in omega (arith, top.0, empty, c.requires.room, c.args.polynomials.now.ok)
 
 pub loop-done-init : goal.loop-done-init
 loop-done-init g c =
@@ -42,7 +36,7 @@ loop-done-init g c =
     c.args.interval.now.top c.requires.interval.top_member c.args.interval.now.members.items
     c.requires.interval.between c.args.limit c.requires.below
     in let within = rw (to_z-of_z w64 c.args.limit c.ranges.limit) at c.in-Ok.ensures.within
-    in let items = rw (c.in_ok-polynomials.ensures.items, c.in-Ok.ensures.one) at c.push_reserved.ensures.items
+    in let items = rw (c.requires.none, c.in-Ok.ensures.one) at c.push_reserved.ensures.items
     in rw (items, to_z-of_z w64 c.args.limit c.ranges.limit) record {
       size = refl;
       inverses = inverses-push c.args.ctx.now c.len-len.ensures.admissible c.len-len.ensures.closed c.args.interval.now.bottom
@@ -64,14 +58,14 @@ pub returns-in-Err-closed-clause-fault : goal.returns-in-Err-closed-clause-fault
 returns-in-Err-closed-clause-fault g c =
     let polys = c.loop-done.polynomials.items
     in let before = rw (to_z-of_z w64 c.args.limit c.ranges.limit) at c.loop-done.invariant.inverses
-    in let size : c.len-in-loop-done.result ≡ length c.args.interval.now.members.items
-    = omega (arith, c.len-in-loop-done.ensures, c.args.interval.now.members.ok)
+    in let size : c.len.result ≡ length c.args.interval.now.members.items
+    = omega (arith, c.len.ensures, c.args.interval.now.members.ok)
     in let more : length c.loop-done.polynomials.items < length c.args.interval.now.members.items
     = omega (arith, c.loop-done.invariant.size, c.loop-done-test.true, c.len-done-end.ensures, c.args.interval.now.members.ok)
     in let is = rw c.as_slice.ensures.value at c.sum_up.ensures
     in let fault = rw (to_z-of_z w64 c.args.limit c.ranges.limit) at c.in-Err-closed.ensures.fault
     in let at_x : c.index-x.result.now ≡ number_before c.args.interval.now.members.items (length c.loop-done.polynomials.items)
-    = read-number c.args.interval.now.members.items c.len-in-loop-done.result (length c.loop-done.polynomials.items)
+    = read-number c.args.interval.now.members.items c.len.result (length c.loop-done.polynomials.items)
     c.index-x.result.now size
     more (rw c.loop-done.invariant.size c.index-x.ensures)
     in sums-fault c.args.ctx.now c.len-len.ensures.admissible c.len-len.ensures.closed c.args.interval.now.bottom
@@ -84,8 +78,8 @@ pub loop-done-preserved : goal.loop-done-preserved
 loop-done-preserved g c =
     let polys = c.loop-done.polynomials.items
     in let before = rw (to_z-of_z w64 c.args.limit c.ranges.limit) at c.loop-done.invariant.inverses
-    in let size : c.len-in-loop-done.result ≡ length c.args.interval.now.members.items
-    = omega (arith, c.len-in-loop-done.ensures, c.args.interval.now.members.ok)
+    in let size : c.len.result ≡ length c.args.interval.now.members.items
+    = omega (arith, c.len.ensures, c.args.interval.now.members.ok)
     in let more : length c.loop-done.polynomials.items < length c.args.interval.now.members.items
     = omega (arith, c.loop-done.invariant.size, c.loop-done-test.true, c.len-done-end.ensures, c.args.interval.now.members.ok)
     in let is = rw c.as_slice.ensures.value at c.sum_up.ensures
