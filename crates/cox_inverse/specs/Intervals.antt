@@ -11,7 +11,7 @@ use Rattle.cox_context.specs.Closed.{Elements}
 use Rattle.cox_context.specs.Numbers.{word_at}
 use Rattle.cox_row.specs.Rising.{number_at}
 use Rattle.cox_row_builder.specs.LargeMembers.{IsWithinLimit}
-use Rattle.cox_poly.specs.Limit.{IsFirstAbove}
+use Rattle.cox_poly.specs.Limit.{AllWithin, IsFirstAbove}
 use Rattle.cox_inverse.specs.declared.fault.TheConstants.{MAX_COEFFICIENT}
 use Rattle.cox_inverse.specs.declared.fault.InverseFault.{InverseFault}
 use Rattle.cox_inverse.specs.declared.fault.InverseFault.TheVariants.{Coefficient, Inverse, NoMemory}
@@ -42,8 +42,8 @@ pub record IsMemberOff (e : Elements) (x z : ℕ) (r old new : List ℤ) : Type 
       (times_sign (length (word_at e.members z) - length (word_at e.members x)) (product (coefficient p) (coefficient r))) k)
   pub passed : ¬ IsBelow (integer_matrix e.matrix) (word_at e.members x) (word_at e.members z) → new ≡ old
 
--- what a fault of the sums for the member x says of them
+-- what a fault of the sums for the member x says of them; memory runs out only where no coefficient is above the limit
 abbrev pub IsSumFault : ℕ → ℤ → List ℤ → InverseFault → Type 0
 IsSumFault x limit sums (Coefficient u z degree value) = ⊥
 IsSumFault x limit sums (Inverse u degree value) = (u ≡ x) × IsFirstAbove limit sums degree value
-IsSumFault x limit sums NoMemory = Unit {0}
+IsSumFault x limit sums NoMemory = AllWithin limit sums

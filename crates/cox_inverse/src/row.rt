@@ -7,9 +7,10 @@ ghost use Rattle.cox_poly.specs.Limit.{AllWithin, IsFirstAbove};
 ghost use Rattle.cox_context.specs.Closed.{Elements};
 ghost use Rattle.cox_context.specs.Numbers.{word_at};
 ghost use Rattle.cox_inverse.specs.InverseRow.{IsInverse};
-ghost use Rattle.cox_inverse.specs.NumberedInverses.{AreInverses, IsInverseRowDown};
-ghost use Rattle.cox_inverse.specs.InverseFaults.{IsInverseFault, AreWithinLimits};
+ghost use Rattle.cox_inverse.specs.NumberedInverses.{AreInverses, IsInverseRowDown, number_before};
+ghost use Rattle.cox_inverse.specs.InverseFaults.{IsInverseFault, IsInverseWithin, AreWithinLimits};
 ghost use Rattle.cox_inverse.specs.Intervals.{IsInterval, AreRowsThere, ArePairsSmall, IsSumFault};
+ghost use Rattle.cox_inverse.specs.declared.fault.InverseFault.TheVariants.{NoMemory};
 
 use crate::fault::{InverseFault, MAX_COEFFICIENT};
 use crate::interval::Interval;
@@ -120,7 +121,7 @@ fn all_polynomials<L: LowerRows>(
     Ok(polynomials)
 }
 
-/// Puts these polynomials into a list that has room for them.
+/// Puts these polynomials into a list that has room for them. Memory runs out only where the next one has no coefficient above the limit.
 fn put_polynomials<L: LowerRows>(
     alloc: Global,
     ctx: &Context,
@@ -142,6 +143,9 @@ fn put_polynomials<L: LowerRows>(
     ensures inverses { OnOk result (AreInverses ctx.now interval.now.top limit interval.now.members.items polynomials.new.items) }
     ensures all { OnOk result (length polynomials.new.items ≡ length interval.now.members.items) }
     ensures fault { IfErr result (IsInverseFault ctx.now interval.now.bottom interval.now.top limit) }
+    ensures memory { let A = integer_matrix ctx.now.matrix in
+        let x = number_before interval.now.members.items (length polynomials.new.items) in
+        IfErr result (λ e. e ≡ NoMemory → IsInverseWithin A limit (word_at ctx.now.members x) (word_at ctx.now.members interval.now.top)) }
 {
     let _len = ctx.len();
     let one = match top_polynomial(alloc, interval.top, limit) {

@@ -2,10 +2,14 @@
 use Rattle.std.proofs.Common.{◌≡◌, ◌<◌, [], ◌∷◌, length, pos, w64, refl, arith}
 use Rattle.std.proofs.lemmas.Int.{to_z-of_z}
 use Rattle.cox_lemmas.proofs.PushedItems.{push-length}
+use Rattle.cox_base.specs.IntegerMatrix.{integer_matrix}
+use Rattle.cox_poly.specs.Limit.{AllWithin}
+use Rattle.cox_context.specs.Numbers.{word_at}
 use Rattle.cox_inverse.specs.declared.fault.TheConstants.{MAX_COEFFICIENT}
 use Rattle.cox_inverse.specs.NumberedInverses.{number_before}
 use Rattle.cox_inverse.proofs.LastMembers.{last-top}
-use Rattle.cox_inverse.proofs.LastInverses.{inverses-none, inverses-push, inverses-keep, inverses-more, sums-fault, top-value}
+use Rattle.cox_inverse.proofs.LastInverses.{inverses-none, inverses-push, inverses-keep, inverses-more, inverse-within}
+use Rattle.cox_inverse.proofs.LastInverses.{sums-fault, top-value}
 use Rattle.cox_inverse.proofs.SummedMembers.{read-number}
 use Rattle.cox_inverse.proofs.row.put_polynomials.Goals as goal
 
@@ -91,3 +95,22 @@ loop-done-preserved g c =
           c.requires.interval.between c.args.limit c.loop-done.polynomials.items c.sum_up.new.sums c.in-Ok-closed.polynomial more is
           c.in-Ok-closed.ensures.same c.in-Ok-closed.ensures.trimmed within before;
     }
+
+pub returns-in-Err-clause-memory : goal.returns-in-Err-clause-memory
+returns-in-Err-clause-memory g c = λ out.
+    let top = top-value c.args.ctx.now c.len-len.ensures.admissible c.len-len.ensures.closed c.args.interval.now.bottom
+    c.args.interval.now.top c.requires.interval.top_member c.args.interval.now.members.items
+    c.requires.interval.between c.args.limit c.requires.below
+    in let within : AllWithin c.args.limit (pos 1 ∷ [])
+    = rw (out, to_z-of_z w64 c.args.limit c.ranges.limit) at c.in-Err.ensures.fault
+    in rw c.requires.none (inverse-within (integer_matrix c.args.ctx.now.matrix) c.len-len.ensures.admissible c.args.limit
+    (word_at c.args.ctx.now.members (number_before c.args.interval.now.members.items 0))
+    (word_at c.args.ctx.now.members c.args.interval.now.top) (pos 1 ∷ []) top.1 within)
+
+pub returns-in-Err-closed-clause-memory : goal.returns-in-Err-closed-clause-memory
+returns-in-Err-closed-clause-memory g c = λ out.
+    let within : AllWithin c.args.limit c.sum_up.new.sums
+    = rw (out, to_z-of_z w64 c.args.limit c.ranges.limit) at c.in-Err-closed.ensures.fault
+    in inverse-within (integer_matrix c.args.ctx.now.matrix) c.len-len.ensures.admissible c.args.limit
+    (word_at c.args.ctx.now.members (number_before c.args.interval.now.members.items (length c.loop-done.polynomials.items)))
+    (word_at c.args.ctx.now.members c.args.interval.now.top) c.sum_up.new.sums (rw c.as_slice.ensures.value at c.sum_up.ensures) within
