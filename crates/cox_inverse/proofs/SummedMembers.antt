@@ -1,16 +1,13 @@
 -- The members that the recursion goes through, as they are read by their places.
-use Rattle.std.proofs.Common.{◌≡◌, ℕ, suc, ◌-◌, ◌<◌, ◌≤◌, List, length, get_or, ℤ, ap, ◌∙◌, arith}
+use Rattle.std.proofs.Common.{◌≡◌, ℕ, suc, ◌-◌, ◌<◌, ◌≤◌, List, length, get_or, ℤ, ap, ◌∙◌, ⊎_elim, arith}
 use Rattle.std.proofs.lemmas.List.{get_or_read}
 use Rattle.cox_base.specs.IntegerMatrix.{IntegerMatrix, integer_matrix}
 use Rattle.cox_base.specs.Admissible.{IsAdmissible}
 use Rattle.cox_base.specs.Length.{word_length}
 use Rattle.cox_base.specs.Bruhat.{IsBelow}
 use Rattle.cox_reflect.proofs.Bruhat.{below-length}
-use Rattle.cox_poly.specs.Products.{product}
-use Rattle.cox_poly.specs.Multiples.{minus}
 use Rattle.cox_poly.specs.Polynomial.{coefficient}
-use Rattle.cox_rpoly.specs.Sign.{times_sign}
-use Rattle.cox_hecke.specs.Row.{IsKazhdanLusztig}
+use Rattle.cox_hecke.proofs.ElementLists.{below_or_not}
 use Rattle.cox_context.specs.Closed.{Elements, IsClosed}
 use Rattle.cox_context.specs.Numbers.{word_at}
 use Rattle.cox_context.proofs.PlacedWords.{contains-at}
@@ -20,6 +17,7 @@ use Rattle.cox_row.proofs.RisingNumbers.{rising-few}
 use Rattle.cox_inverse.specs.InverseRow.{IsInverse}
 use Rattle.cox_inverse.specs.NumberedInverses.{number_before, AreBetween}
 use Rattle.cox_inverse.specs.InverseFaults.{IsPair}
+use Rattle.cox_inverse.specs.Intervals.{IsMemberOff}
 use Rattle.cox_inverse.proofs.LastMembers.{before-member, before-above, before-below}
 use Rattle.cox_inverse.proofs.RecursionSums.{AreLastOff, off-more, off-skip}
 
@@ -60,22 +58,19 @@ module _ (e : Elements) (g : IsAdmissible (integer_matrix e.matrix)) (closed : I
     pub numbers-few : length numbers ≤ length e.members
     numbers-few = rising-few (length e.members) numbers are.rising are.within
 
-    -- the term of the member z is taken off
-    pub off-taken : (x z n next lx lz : ℕ) (p r s old new : List ℤ) → next ≡ suc n → x < length e.members → z < length e.members
-        → z ≡ number_before numbers n → lx ≡ length (word_at e.members x) → lz ≡ length (word_at e.members z)
-        → IsKazhdanLusztig A (word_at e.members x) (word_at e.members z) (coefficient p)
-        → r ≡ s → IsInverse A (word_at e.members (number_before numbers n)) (word_at e.members w) (coefficient s)
-        → ((k : ℕ) → coefficient new k ≡ minus (coefficient old) (times_sign (lz - lx) (product (coefficient p) (coefficient r))) k)
+    -- the term of the member z is taken off, if x is below it
+    pub off-member : (x z n next : ℕ) (r s old new : List ℤ) → next ≡ suc n → x < length e.members → z < length e.members
+        → z ≡ number_before numbers n → r ≡ s
+        → IsInverse A (word_at e.members (number_before numbers n)) (word_at e.members w) (coefficient s)
+        → IsMemberOff e x z r old new
         → AreLastOff e numbers (word_at e.members w) (word_at e.members x) n old
         → AreLastOff e numbers (word_at e.members w) (word_at e.members x) next new
-    off-taken x z n next lx lz p r s old new more l m at size_x size_z is_p same is_r off before =
-        rw more (off-more e numbers (word_at e.members w) (word_at e.members x) n (lz - lx) p s old new (rw at at is_p) is_r
-        (rw (← at) (omega (arith, size_x, size_z, length-at A g e.members closed x l, length-at A g e.members closed z m)))
-        (rw same at off) before)
-
-    pub off-passed : (x z n next : ℕ) (old : List ℤ) → next ≡ suc n → z ≡ number_before numbers n
-        → (IsBelow A (word_at e.members x) (word_at e.members z) → ⊥)
-        → AreLastOff e numbers (word_at e.members w) (word_at e.members x) n old
-        → AreLastOff e numbers (word_at e.members w) (word_at e.members x) next old
-    off-passed x z n next old more at none before =
-        rw more (off-skip e numbers (word_at e.members w) (word_at e.members x) n old (rw at at none) before)
+    off-member x z n next r s old new more l m at same is_r off before = rw more (⊎_elim
+        (λ (b : IsBelow A (word_at e.members x) (word_at e.members z)). let (p, is_p, sum) = off.taken b
+        in off-more e numbers (word_at e.members w) (word_at e.members x) n
+        (length (word_at e.members z) - length (word_at e.members x)) p s old new (rw at at is_p) is_r
+        (rw (← at) (omega (arith, length-at A g e.members closed x l, length-at A g e.members closed z m)))
+        (rw same at sum) before)
+        (λ (none : IsBelow A (word_at e.members x) (word_at e.members z) → ⊥). rw (off.passed none)
+        (off-skip e numbers (word_at e.members w) (word_at e.members x) n old (rw at at none) before))
+        (below_or_not A g (word_at e.members x) (word_at e.members z)))

@@ -1,15 +1,16 @@
 //! Inverse rows, and how one is made: from w down, each polynomial from those behind it.
-ghost use Rattle.std.specs.Prelude.{◌≡◌, ◌≢◌, ℕ, ◌<◌, ◌≤◌, ℤ, pos, ◌≤ℤ◌, ◌∷◌, [], length, Contains, Err, IfOk, IfErr, OnOk};
+ghost use Rattle.std.specs.Prelude.{◌≡◌, ◌≢◌, ℕ, ◌<◌, ◌≤◌, ℤ, pos, ◌≤ℤ◌, ◌∷◌, ◌↔◌, [], length, vec_capacity, Contains, Err, IfOk, IfErr, OnOk};
 ghost use Rattle.cox_base.specs.IntegerMatrix.{integer_matrix};
 ghost use Rattle.cox_base.specs.Bruhat.{IsBelow};
 ghost use Rattle.cox_poly.specs.Polynomial.{coefficient, IsPolynomial, SameCoefficients};
-ghost use Rattle.cox_poly.specs.Limit.{AllWithin};
+ghost use Rattle.cox_poly.specs.Limit.{AllWithin, IsFirstAbove};
 ghost use Rattle.cox_context.specs.Closed.{Elements};
 ghost use Rattle.cox_context.specs.Numbers.{word_at};
 ghost use Rattle.cox_inverse.specs.InverseRow.{IsInverse};
-ghost use Rattle.cox_inverse.specs.NumberedInverses.{AreInverses, IsInverseRowDown};
-ghost use Rattle.cox_inverse.specs.InverseFaults.{IsInverseFault, AreWithinLimits};
+ghost use Rattle.cox_inverse.specs.NumberedInverses.{AreInverses, IsInverseRowDown, number_before};
+ghost use Rattle.cox_inverse.specs.InverseFaults.{IsInverseFault, IsInverseWithin, AreWithinLimits};
 ghost use Rattle.cox_inverse.specs.Intervals.{IsInterval, AreRowsThere, ArePairsSmall, IsSumFault};
+ghost use Rattle.cox_inverse.specs.declared.fault.InverseFault.TheVariants.{NoMemory};
 
 use crate::fault::{InverseFault, MAX_COEFFICIENT};
 use crate::interval::Interval;
@@ -115,12 +116,42 @@ fn all_polynomials<L: LowerRows>(
     ensures all { IfOk result (λ v. length v.items ≡ length interval.now.members.items) }
     ensures fault { IfErr result (IsInverseFault ctx.now interval.now.bottom interval.now.top limit) }
 {
+    let mut polynomials = Vec::with_capacity(alloc, interval.members.len())?;
+    put_polynomials(alloc, ctx, interval, lower, limit, &mut polynomials)?;
+    Ok(polynomials)
+}
+
+/// Puts these polynomials into a list that has room for them. Memory runs out only where the next one has no coefficient above the limit.
+fn put_polynomials<L: LowerRows>(
+    alloc: Global,
+    ctx: &Context,
+    interval: &Interval,
+    lower: &L,
+    limit: i64,
+    polynomials: &mut Vec<Poly>,
+) -> Result<(), InverseFault>
+    requires interval { IsInterval ctx.now interval.now }
+    requires below { let A = integer_matrix ctx.now.matrix in
+        IsBelow A (word_at ctx.now.members interval.now.bottom) (word_at ctx.now.members interval.now.top) }
+    requires lower { L.elements lower.now ≡ ctx.now }
+    requires rows { AreRowsThere (L.holds lower.now) interval.now }
+    requires small { ArePairsSmall ctx.now interval.now.bottom interval.now.top }
+    requires least { pos 0 ≤ℤ limit }
+    requires most { limit ≤ℤ MAX_COEFFICIENT }
+    requires none { polynomials.old.items ≡ [] }
+    requires room { length interval.now.members.items ≤ vec_capacity polynomials.old }
+    ensures inverses { OnOk result (AreInverses ctx.now interval.now.top limit interval.now.members.items polynomials.new.items) }
+    ensures all { OnOk result (length polynomials.new.items ≡ length interval.now.members.items) }
+    ensures fault { IfErr result (IsInverseFault ctx.now interval.now.bottom interval.now.top limit) }
+    ensures memory { let A = integer_matrix ctx.now.matrix in
+        let x = number_before interval.now.members.items (length polynomials.new.items) in
+        IfErr result (λ e. e ≡ NoMemory → IsInverseWithin A limit (word_at ctx.now.members x) (word_at ctx.now.members interval.now.top)) }
+{
     let _len = ctx.len();
     let one = match top_polynomial(alloc, interval.top, limit) {
         Ok(one) => one,
         Err(fault) => return Err(fault),
     };
-    let mut polynomials = Vec::with_capacity(alloc, interval.members.len())?;
     polynomials.push_reserved(one);
     let mut sums = Acc::new();
     for done in 1..interval.members.len() {
@@ -131,7 +162,7 @@ fn all_polynomials<L: LowerRows>(
             Err(fault) => return Err(fault),
         }
     }
-    Ok(polynomials)
+    Ok(())
 }
 
 /// Q(w,w) = 1, if the limit admits it.
@@ -153,11 +184,12 @@ fn top_polynomial(alloc: Global, w: u32, limit: i64) -> Result<Poly, InverseFaul
     Ok(one)
 }
 
-/// The polynomial with these sums, which are those for a member x.
+/// The polynomial with these sums, which are those for a member x. Where a coefficient is above the limit the fault tells the first one.
 fn closed(alloc: Global, x: u32, sums: &Acc, limit: i64) -> Result<Poly, InverseFault>
     ensures same { IfOk result (λ p. SameCoefficients p sums.now) }
     ensures trimmed { IfOk result IsPolynomial }
     ensures within { OnOk result (AllWithin limit sums.now) }
+    ensures too_big { (d : ℕ) (v : ℤ) → (result ≡ Err (InverseFault.Inverse x d v)) ↔ IsFirstAbove limit sums.now d v }
     ensures fault { IfErr result (IsSumFault x limit sums.now) }
 {
     match sums.close(alloc, limit) {

@@ -1,6 +1,7 @@
 //! The recursion at one member x: Q(x,w) is less the sum of (-1)^(l(z)-l(x)) P(x,z) Q(z,w) over the z with x < z <= w.
 ghost use Rattle.std.specs.Prelude.{◌≡◌, ℕ, ◌+◌, ◌^◌, ◌<◌, ◌≤◌, length, unsigned_abs, neg_ℤ};
 ghost use Rattle.cox_base.specs.IntegerMatrix.{integer_matrix};
+ghost use Rattle.cox_base.specs.Bruhat.{IsBelow};
 ghost use Rattle.cox_poly.specs.Products.{product};
 ghost use Rattle.cox_poly.specs.Multiples.{minus, scaled};
 ghost use Rattle.cox_poly.specs.Coefficients.{Coefficients};
@@ -8,15 +9,17 @@ ghost use Rattle.cox_poly.specs.Polynomial.{coefficient, HasDegreeBelow};
 ghost use Rattle.cox_poly.specs.Limit.{IsWithin, AllWithin};
 ghost use Rattle.cox_rpoly.specs.Sign.{times_sign};
 ghost use Rattle.cox_context.specs.Numbers.{word_at};
+ghost use Rattle.cox_row.specs.RowOf.{IsRowAt};
+ghost use Rattle.cox_row_builder.specs.LargeMembers.{IsWithinLimit};
 ghost use Rattle.cox_inverse.specs.InverseRow.{IsInverse};
 ghost use Rattle.cox_inverse.specs.NumberedInverses.{AreInverses, number_before};
-ghost use Rattle.cox_inverse.specs.Intervals.{IsInterval, AreRowsThere, ArePairsSmall};
+ghost use Rattle.cox_inverse.specs.Intervals.{IsInterval, AreRowsThere, ArePairsSmall, IsMemberOff};
 
 use crate::fault::MAX_COEFFICIENT;
 use crate::interval::Interval;
 use cox_context::Context;
 use cox_poly::{Acc, Poly, PolyView};
-use cox_row::{LowerRows, polynomial};
+use cox_row::{LowerRows, Row, polynomial};
 
 /// The sums become those of Q(x,w), for the last member x of the interval that has no polynomial yet. At least one has.
 pub(crate) fn sum_up<L: LowerRows>(
@@ -43,10 +46,28 @@ pub(crate) fn sum_up<L: LowerRows>(
     sums.clear();
     for (j, r) in polynomials.iter().enumerate() {
         let z = interval.members[last - j];
-        if let Some(p) = polynomial(ctx, lower.row(z), z, x) {
-            let difference = ctx.length(z) - ctx.length(x);
-            take_off(&p, &r.view(), difference, sums);
-        }
+        take_off_member(ctx, lower.row(z), z, x, &r.view(), sums);
+    }
+}
+
+/// Takes (-1)^(l(z)-l(x)) P(x,z) r off the sums, for members x <= z and the row of z, and nothing for others.
+fn take_off_member(ctx: &Context, row: &Row, z: u32, x: u32, r: &PolyView<'_>, sums: &mut Acc)
+    requires z { z < length ctx.now.members }
+    requires x { x < length ctx.now.members }
+    requires row { IsRowAt ctx.now z row.now }
+    requires small { let A = integer_matrix ctx.now.matrix in
+        IsBelow A (word_at ctx.now.members x) (word_at ctx.now.members z)
+        → IsWithinLimit A MAX_COEFFICIENT (word_at ctx.now.members x) (word_at ctx.now.members z) }
+    requires r_degree { HasDegreeBelow r.now 128 }
+    requires r_small { AllWithin MAX_COEFFICIENT r.now }
+    requires room { (k : ℕ) → unsigned_abs (coefficient sums.old k) ≤ 2 ^ 122 }
+    ensures off { IsMemberOff ctx.now x z r.now sums.old sums.new }
+    ensures size { (k : ℕ) → unsigned_abs (coefficient sums.new k) ≤ unsigned_abs (coefficient sums.old k) + 2 ^ 101 }
+{
+    let _len = ctx.len();
+    if let Some(p) = polynomial(ctx, row, z, x) {
+        let difference = ctx.length(z) - ctx.length(x);
+        take_off(&p, r, difference, sums);
     }
 }
 

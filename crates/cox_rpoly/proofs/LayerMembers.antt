@@ -1,9 +1,9 @@
 -- Layers: one element more, and what is a member of the next.
 use Rattle.std.proofs.Common.{◌≡◌, ℕ, ◌+◌, ◌<◌, ◌≤◌, Some, None, List, [], ◌∷◌, ◌++◌, length, take, get_or, inl, inr, ap, sym, ◌∙◌, ⊎_elim}
 use Rattle.std.proofs.Common.{arith}
-use Rattle.std.specs.Prelude.{All, Contains, Result, Ok, Err, IfErr}
+use Rattle.std.specs.Prelude.{All, Contains, Result, Ok, Err, IfErr, IsErrAnd}
 use Rattle.std.proofs.lemmas.Bool.{cases_lt}
-use Rattle.std.proofs.lemmas.List.{length-append, get_or_append_left, take_more}
+use Rattle.std.proofs.lemmas.List.{length-append, get_or_append_left, get_or_default, take_more}
 use Rattle.std.proofs.lemmas.List.Elements.{All-append, All-cons, All-nil, Contains-append_left}
 use Rattle.std.proofs.Math.Seq.{get_or-append_seam}
 use Rattle.cox_base.specs.IntegerMatrix.{IntegerMatrix}
@@ -18,12 +18,17 @@ use Rattle.cox_reflect.proofs.Search.{word_length-equal, word_length-length}
 use Rattle.cox_rpoly.specs.declared.terms.Link.{Link}
 use Rattle.cox_rpoly.specs.declared.terms.Link.TheVariants.{Shorter, Longer}
 use Rattle.cox_rpoly.specs.ElementValues.{Naming, IsShortElement}
-use Rattle.cox_rpoly.specs.Layer.{IsInLayer, HasGained, Extends, IsTimesAt, IsLongerLink, IsLink, AreLinks}
+use Rattle.cox_rpoly.specs.Layer.{IsInLayer, IsLackedBy, HasGained, Extends, IsTimesAt, IsLongerLink, IsLink, AreLinks}
 
 -- what holds of each fault
 pub if_err : {T E : Type 0} {P : E → Type 0} (r : Result T E) → ((e : E) → P e) → IfErr r P
 if_err (Ok x) p = tt
 if_err (Err e) p = p e
+
+-- what holds of the fault that it is
+pub if_that_err : {T E : Type 0} (P : E → Type 0) (r : Result T E) (e : E) → IsErrAnd r (λ f. f ≡ e) → P e → IfErr r P
+if_that_err P (Ok x) e is p = tt
+if_that_err P (Err f) e is p = rw is p
 
 module _ {X : Type 0} where
   -- ---- one element more
@@ -49,6 +54,20 @@ module _ {X : Type 0} where
 
   pub Extends-trans : (a b c : List X) → Extends a b → Extends b c → Extends a c
   Extends-trans a b c e f = record { kept = λ i x h. f.kept i x (e.kept i x h) }
+
+  Extends-contains : (old new : List X) (x : X) → Extends old new → Contains old x → Contains new x
+  Extends-contains old new x e (k, within, is) =
+      let at = e.kept k x (record { within = within; is = λ d. get_or_default old k d x within ∙ is })
+      in (k, at.within, at.is x)
+
+  -- what is lacked in the end was lacked before
+  pub IsLackedBy-before : (of : Naming X) (A : IntegerMatrix) (v : List ℕ) (old new : List X) → Extends old new
+      → IsLackedBy of A v new → IsLackedBy of A v old
+  IsLackedBy-before of A v old new e l = record {
+    element = l.element;
+    member = l.member;
+    lacks = λ has. l.lacks (Extends-contains old new l.element e has);
+  }
 
 module _ {X : Type 0} (of : Naming X) where
   -- a link holds on

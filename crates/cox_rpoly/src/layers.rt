@@ -4,7 +4,7 @@
 //! is R(sx,u), and else it is (q-1) R(x,u) + q R(sx,u), where R(sx,u) is 0 unless sx <= u. So a layer leads to the next by links, which
 //! stay while the elements go, and the values come back by them from the end of the word, where the identity alone is left.
 //! There is no value where a number of an element overflows.
-ghost use Rattle.std.specs.Prelude.{◌≡◌, ℕ, List, ◌+◌, ◌≤◌, [], ◌∷◌, length, IfOk, IfErr, OnOk, OnErr, IsTrue, All, Contains};
+ghost use Rattle.std.specs.Prelude.{◌≡◌, ℕ, List, ◌+◌, ◌≤◌, [], ◌∷◌, length, vec_capacity, IfOk, IfErr, OnOk, OnErr, IsTrue, All, Contains};
 ghost use Rattle.cox_base.specs.Matrix.{IsLetter, IsWord};
 ghost use Rattle.cox_base.specs.Admissible.{IsAdmissible};
 ghost use Rattle.cox_base.specs.IntegerMatrix.{integer_matrix};
@@ -73,39 +73,40 @@ fn next_layer<W: Words, E: Element>(
     ensures sure { IsTrue E.is_sure → IfErr result (λ e. e ≡ NoMemory) }
 {
     let mut next = IndexSet::new(alloc);
-    let links = links(alloc, words, s, rest, layer.as_slice(), &mut next)?;
+    let mut links = Vec::with_capacity(alloc, layer.len())?;
+    put_links(words, s, rest, layer.as_slice(), &mut next, &mut links)?;
     Ok((next, links))
 }
 
-/// The links of a layer to the next, which has no elements yet.
-fn links<W: Words, E: Element>(
-    alloc: Global,
+/// Puts the links of a layer to the next into a list that has room for them. Memory runs out only where the next layer has not yet all that
+/// they need.
+fn put_links<W: Words, E: Element>(
     words: &W,
     s: u8,
     rest: &[u8],
     layer: &[E],
     next: &mut IndexSet<E>,
-) -> Result<Vec<Link>, NoValue>
+    links: &mut Vec<Link>,
+) -> Result<(), NoValue>
     requires admissible { IsAdmissible (integer_matrix (W.matrix words.now)) }
     requires letter { IsLetter (W.matrix words.now).rank s }
     requires letters { IsWord (W.matrix words.now).rank rest.now }
     requires reduced { IsReduced (integer_matrix (W.matrix words.now)) (s ∷ rest.now) }
     requires short { length rest.now + 1 ≤ W.longest words.now }
     requires members { All (IsInLayer E.is_of (integer_matrix (W.matrix words.now)) (s ∷ rest.now)) layer.now }
-    requires none { next.old.keys ≡ [] }
+    requires members_next { All (IsInLayer E.is_of (integer_matrix (W.matrix words.now)) rest.now) next.old.keys }
+    requires none { links.old.items ≡ [] }
+    requires room { length layer.now ≤ vec_capacity links.old }
     ensures members { OnOk result (All (IsInLayer E.is_of (integer_matrix (W.matrix words.now)) rest.now) next.new.keys) }
-    ensures links { IfOk result (λ links. AreLinks E.is_of (integer_matrix (W.matrix words.now)) s rest.now layer.now next.new.keys
-        links.items) }
+    ensures links { OnOk result (AreLinks E.is_of (integer_matrix (W.matrix words.now)) s rest.now layer.now next.new.keys
+        links.new.items) }
     ensures sure { IsTrue E.is_sure → IfErr result (λ e. e ≡ NoMemory) }
+    ensures fault { IfErr result (λ e. e ≡ NoMemory → IsLackedBy E.is_of (integer_matrix (W.matrix words.now)) rest.now next.old.keys) }
 {
-    let mut links = Vec::new(alloc);
     for x in layer {
-        let link = link(words, s, rest, x, next)?;
-        let Ok(()) = links.push(link) else {
-            return Err(NoValue::NoMemory);
-        };
+        links.push_reserved(link(words, s, rest, x, next)?);
     }
-    Ok(links)
+    Ok(())
 }
 
 /// The link of an element to the next layer, which takes up what the value at x needs. Memory runs out only where it has not all of that.

@@ -1,5 +1,5 @@
 //! R-polynomials of two words.
-ghost use Rattle.std.specs.Prelude.{◌≡◌, ℕ, ◌+◌, ◌≤◌, ◌↔◌, length, Err, IfOk, IfErr, IsOk, IsTrue};
+ghost use Rattle.std.specs.Prelude.{◌≡◌, ◌≢◌, ℕ, ◌+◌, ◌≤◌, ◌↔◌, length, Err, IfOk, IfErr, IsOk, IsTrue};
 ghost use Rattle.cox_base.specs.Admissible.{IsAdmissible};
 ghost use Rattle.cox_base.specs.Bruhat.{IsBelow};
 ghost use Rattle.cox_base.specs.IntegerMatrix.{integer_matrix};
@@ -9,7 +9,7 @@ ghost use Rattle.cox_base.specs.Matrix.{IsWord};
 ghost use Rattle.cox_poly.specs.Polynomial.{coefficient, IsPolynomial};
 ghost use Rattle.cox_rpoly.specs.RPolynomial.{r_polynomial};
 ghost use Rattle.cox_rpoly.specs.Recursion.{r_along};
-ghost use Rattle.cox_rpoly.specs.declared.no_value.NoValue.TheVariants.{NoMemory};
+ghost use Rattle.cox_rpoly.specs.declared.no_value.NoValue.TheVariants.{NoMemory, Overflow};
 ghost use Rattle.cox_rpoly.specs.Depth.{IsDeep};
 
 use crate::MAX_DIFFERENCE;
@@ -82,10 +82,22 @@ fn along_any<W: Words>(alloc: Global, words: &W, y: &Word, form: &[u8]) -> Resul
     ensures normal { IfOk result IsPolynomial }
     ensures sure { IfErr result (λ e. e ≡ NoMemory) }
 {
-    match along::<W, Heights>(alloc, words, y, form) {
-        Ok(p) => Ok(p),
-        Err(NoValue::NoMemory) => Err(NoValue::NoMemory),
-        Err(NoValue::Overflow) => along::<W, Word>(alloc, words, y, form),
+    let by_heights = along::<W, Heights>(alloc, words, y, form);
+    or_where_overflows(by_heights, || along::<W, Word>(alloc, words, y, form))
+}
+
+/// What was found, or what another way finds where a number overflowed on the first.
+fn or_where_overflows<T, F: FnOnce() -> Result<T, NoValue>>(
+    found: Result<T, NoValue>,
+    another: F,
+) -> Result<T, NoValue>
+    requires { F.IsAlwaysCallable another }
+    ensures overflow { found ≡ Err Overflow → F.post another result }
+    ensures found { found ≢ Err Overflow → result ≡ found }
+{
+    match found {
+        Err(NoValue::Overflow) => another(),
+        found => found,
     }
 }
 

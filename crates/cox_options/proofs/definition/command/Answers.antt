@@ -1,7 +1,8 @@
--- The command that is built is the one of the definition: each call of `arg` adds the rule of the next option.
+-- The command that is built is the one of the definition: each step adds the rule of the next option.
 use Rattle.std.proofs.Common.{◌≡◌, ◌∙◌, ap, ap₂, codes, ℕ, true}
 use Rattle.std.proofs.lemmas.Result.{IfOk-weaker}
-use Rattle.cox_options.specs.declared.options.TheConstants.{MAX_CONTEXT_TEXT, MAX_ROOTS_TEXT, DEFAULT_WORKERS_TEXT}
+use Rattle.cox_options.specs.declared.options.TheConstants.{MAX_CONTEXT_TEXT, MAX_ROOTS_TEXT, MAX_COEF, MAX_COEF_TEXT}
+use Rattle.cox_options.specs.declared.options.TheConstants.{DEFAULT_WORKERS_TEXT}
 use Rattle.clap.specs.Words.{App, Rule, Text, app_of, new_app, with_rule}
 use Rattle.clap.specs.Simple.{app_of_fields, on_top}
 use Rattle.cox_options.specs.Command.{number_rule}
@@ -17,13 +18,14 @@ without_help = on_top (λ s. record s { disable_help_flag = true })
 
 pub returns : goal.returns
 returns c =
-    let bare : app_of c.disable_help_flag.result ≡ without_help (app_of c.new.result) = ap app_of_fields c.disable_help_flag.ensures in
-    let start : app_of c.disable_help_flag.result ≡ without_help (new_app (codes "coxeter")) = bare ∙ ap without_help c.new.ensures.app in
-    let context = c.number_option-context.ensures.rule ∙ ap (rule (codes "context") MAX_CONTEXT_TEXT.now) c.from.ensures in
-    let roots = c.number_option-roots.ensures.rule ∙ ap (rule (codes "roots") MAX_ROOTS_TEXT.now) c.from-2.ensures in
-    let one = c.in_ok-arg.ensures.shape c.number_option-context.ensures.local ∙ ap₂ with_rule start context in
-    let two = c.in_ok-arg-2.ensures.shape c.number_option-roots.ensures.local ∙ ap₂ with_rule one roots in
-    let three = c.in_ok-arg-3.ensures.shape c.number_option-coef.ensures.local ∙ ap₂ with_rule two c.number_option-coef.ensures.rule in
-    let workers = c.number_option-workers.ensures.rule ∙ ap (rule (codes "workers") DEFAULT_WORKERS_TEXT.now) c.from-3.ensures in
-    IfOk-weaker c.arg-4.result _ _
-    (λ command added. added.shape c.number_option-workers.ensures.local ∙ ap₂ with_rule three workers) c.arg-4.ensures
+    let bare : app_of c.disable_help_flag-bare.result ≡ without_help (app_of c.new.result)
+    = ap app_of_fields c.disable_help_flag-bare.ensures in
+    let start : app_of c.disable_help_flag-bare.result ≡ without_help (new_app (codes "coxeter"))
+    = bare ∙ ap without_help c.new.ensures.app in
+    let context = ap (rule (codes "context") MAX_CONTEXT_TEXT.now) c.from.ensures in
+    let roots = ap (rule (codes "roots") MAX_ROOTS_TEXT.now) c.from-2.ensures in
+    let one = c.in_ok-one.ensures ∙ ap₂ with_rule start context in
+    let two = c.in_ok-two.ensures ∙ ap₂ with_rule one roots in
+    let three = c.in_ok-three.ensures ∙ ap (λ (app : App). with_rule app (rule (codes "coef") MAX_COEF_TEXT.now MAX_COEF)) two in
+    let workers = ap (rule (codes "workers") DEFAULT_WORKERS_TEXT.now) c.from-3.ensures in
+    IfOk-weaker c.with_number-4.result _ _ (λ command added. added ∙ ap₂ with_rule three workers) c.with_number-4.ensures

@@ -1,7 +1,7 @@
 -- The polynomials so far.
 use Rattle.std.proofs.Common.{◌≡◌, length}
 use Rattle.cox_inverse.specs.NumberedInverses.{AreInverses}
-use Rattle.cox_inverse.proofs.row.all_polynomials.Given as goal
+use Rattle.cox_inverse.proofs.row.put_polynomials.Given as goal
 
 abbrev pub invariant-loop-done : goal.invariant-loop-done
 invariant-loop-done g l = record {
