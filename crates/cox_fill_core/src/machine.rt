@@ -1,6 +1,6 @@
 //! The fill core as a program: `Core` takes events one by one, or as a list.
 ghost use Rattle.std.specs.Prelude.{◌≡◌, ◌≢◌, ℕ, ◌<◌, true, [], length, vec_len, slice_index_or, replicate, IfOk, OnOk, OnErr, All, Ok};
-ghost use Rattle.std.specs.Prelude.{None, IsTrue};
+ghost use Rattle.std.specs.Prelude.{None, IsTrue, false};
 ghost use Rattle.cox_fill_core.specs.Fill.{opening_core, missing, after, reply, after_all, replies};
 ghost use Rattle.cox_fill_core.specs.Parts.{rows_at, given_needs, NeedsLower, is_held_by};
 ghost use Rattle.cox_fill_core.specs.declared.event.RowState.TheVariants.{Claimed, Free};
@@ -37,13 +37,14 @@ impl Core {
         ensures rows { IfOk result (λ core. row_count core ≡ length needs.now) }
         ensures actors { IfOk result (λ core. actor_count core ≡ actors) }
     {
-        let rows = needs.len();
+        let blank = Blank::new(alloc, needs.len(), actors)?;
+        let needs = copy_needs(alloc, needs)?;
         Ok(Core {
             alloc,
-            needs: copy_needs(alloc, needs)?,
-            states: free_rows(alloc, rows)?,
-            holders: no_holders(alloc, rows)?,
-            seen: unseen(alloc, actors, rows)?,
+            needs,
+            states: blank.states,
+            holders: blank.holders,
+            seen: blank.seen,
         })
     }
 
@@ -196,14 +197,25 @@ impl Core {
     }
 }
 
-fn free_rows(alloc: Global, rows: usize) -> Result<Vec<RowState>, NoMemory>
-    ensures { IfOk result (λ states. states.items ≡ replicate rows Free) }
-{
-    vec![in alloc; RowState::Free; rows]
+/// What a core has of its rows at the opening, beside their needs: each is Free, nobody holds one, and no actor has seen one Published.
+#[derive(Drop)]
+struct Blank {
+    states: Vec<RowState>,
+    holders: Vec<Option<u32>>,
+    seen: Vec<Known>,
 }
 
-fn no_holders(alloc: Global, rows: usize) -> Result<Vec<Option<u32>>, NoMemory>
-    ensures { IfOk result (λ holders. holders.items ≡ replicate rows None) }
-{
-    vec![in alloc; None; rows]
+impl Blank {
+    /// For so many rows and actors.
+    fn new(alloc: Global, rows: usize, actors: u32) -> Result<Blank, NoMemory>
+        ensures states { IfOk result (λ blank. blank.states.items ≡ replicate rows Free) }
+        ensures holders { IfOk result (λ blank. blank.holders.items ≡ replicate rows None) }
+        ensures seen { IfOk result (λ blank. blank.seen.items ≡ replicate actors (replicate rows false)) }
+    {
+        Ok(Blank {
+            states: vec![in alloc; RowState::Free; rows]?,
+            holders: vec![in alloc; None; rows]?,
+            seen: unseen(alloc, actors, rows)?,
+        })
+    }
 }
