@@ -1,6 +1,8 @@
 """Coxeter groups by the program `coxeter`, for Python and Sage."""
-from .base import Word
-from .certificates import Verdict, check
+# What is imported as itself is public too, for mypy: it is no name that `from coxeter_shell import *` brings.
+from .base import Word as Word
+from .certificates import Verdict
+from .certificates import check as check
 from .classes import ConjugacyClasses
 from .errors import (
     CheckFailed,
@@ -24,11 +26,14 @@ from .jobs import Answers
 from .modules import CellModule, InV
 from .polynomial import Polynomial
 from .program import Program, find_program
-from .provenance import Provenance, Release
+from .provenance import Provenance
+from .provenance import Release as Release
 from .right_modules import RightCellModule
 from .schubert import SchubertVariety
-from .tables import Cells, ElementDict, KazhdanLusztigTable, PairDict, RowTable, Table
-from .texts import gap
+from .tables import Cells, ElementDict, KazhdanLusztigTable, PairDict
+from .tables import RowTable as RowTable
+from .tables import Table as Table
+from .texts import gap as gap
 
 __all__ = [
     "Answers",

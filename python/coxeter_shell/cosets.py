@@ -1,7 +1,6 @@
 """Rows of Deodhar's parabolic Kazhdan-Lusztig polynomials, by his recursion on cosets alone, and the W-graphs that they make."""
 from __future__ import annotations
 
-import array
 from typing import Any, Dict, List, Optional, Set, Tuple
 
 from .base import Base, Element, Letters, Word
@@ -147,16 +146,15 @@ class ParabolicRows:
     def graph(self) -> WGraph:
         """The W-graph of all these cosets."""
         places = {u: at for at, u in enumerate(self.elements)}
-        near: List[List[int]] = [[] for _ in places]
+        behind: List[List[int]] = [[] for _ in places]
         other: Dict[Tuple[int, int], int] = {}
         for y, at in places.items():
             for x, value in self.leading(y):
-                near[at].append(places[x])
-                near[places[x]].append(at)
+                behind[places[x]].append(at)
                 if value != 1:
                     other[at, places[x]] = other[places[x], at] = value
         descents = [tuple(s for s in self.moved if self.is_descent(s, u)) for u in self.elements]
-        return WGraph(self.group, "left", self.elements, descents, [array.array("I", sorted(it)) for it in near], other)
+        return WGraph(self.group, "left", self.elements, descents, [tuple(it) for it in behind], other)
 
     def times(self, s: int, row: Dict[Element, int]) -> Dict[Element, int]:
         """C'(s) times a self-dual element."""

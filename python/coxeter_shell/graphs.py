@@ -75,9 +75,11 @@ class WGraph(Drawn, Table):
 
     columns = "x", "descents of x", "y", "descents of y", "mu"
 
-    # A large graph has millions of edges. So they are kept as rising arrays of the places of neighbours, and vertices are made when they
-    # are asked for. `_other` has the values other than 1, by pairs of places. `_unread` has the edges until one is asked for.
+    # A large graph has millions of edges. So they are kept as rising tuples of places, for each vertex those of its neighbours behind it, and
+    # vertices are made when they are asked for. `_other` has the values other than 1, by pairs of places. `_unread` has the edges until one is
+    # asked for, and `_around` all neighbours of each vertex, once they are.
     _unread: Optional[Edges] = None
+    _around: Optional[List[Any]] = None
 
     def __init__(
         self,
@@ -85,12 +87,12 @@ class WGraph(Drawn, Table):
         side: str,
         elements: Iterable[Element],
         descents: List[Element],
-        near: List[Any],
+        behind: List[Tuple[int, ...]],
         other: Dict[Tuple[int, int], int],
     ) -> None:
         self.group = group
         self.side = side
-        self._descents, self._near, self._other = descents, near, other
+        self._descents, self._behind, self._other = descents, behind, other
         self._places = ElementDict(group, zip(elements, itertools.count()), "place")
         self._elements = list(elements)
         self._vertices = None
@@ -112,16 +114,30 @@ class WGraph(Drawn, Table):
         return graph
 
     def _edges(self):
-        """The neighbours of each vertex, as rising places, and the values other than 1 by pairs of places. The first call reads them."""
+        """For each vertex the rising places of its neighbours behind it, and the values other than 1 by pairs of places. The first call reads
+        them."""
         unread = self._unread
         if unread is not None:
             try:
-                self._near, self._other = unread.read()
+                self._behind, self._other = unread.read()
             except ValueError as error:
                 line = self.group._graph_line(self.side)
                 self.group.program.unexpected(line, f"a list of {len(self)} vertices", str(error))
             self._unread = None
-        return self._near, self._other
+        return self._behind, self._other
+
+    def _near(self):
+        """The rising places of all neighbours of each vertex."""
+        if self._around is None:
+            behind, _ = self._edges()
+            around = [array.array("I") for _ in behind]
+            for x, places in enumerate(behind):
+                # Those before it are there, by the turns of these.
+                around[x].extend(places)
+                for y in places:
+                    around[y].append(x)
+            self._around = around
+        return self._around
 
     def __getstate__(self):
         self._edges()
@@ -136,8 +152,8 @@ class WGraph(Drawn, Table):
         return self._vertices
 
     def _vertex(self, x):
-        near, other = self._edges()
-        edges = ((self._elements[y], other.get((x, y), 1)) for y in near[x])
+        near, (_, other) = self._near()[x], self._edges()
+        edges = ((self._elements[y], other.get((x, y), 1)) for y in near)
         return Vertex(self._elements[x], self._descents[x], ElementDict(self.group, edges, "mu"))
 
     def __repr__(self):
@@ -185,14 +201,15 @@ class WGraph(Drawn, Table):
     def _edges_by_vertex(self, least):
         """Such edges vertex by vertex: for each those to later ones."""
         elements, lengths = self._elements, list(map(len, self._elements))
-        all_near, other = self._edges()
+        behind, other = self._edges()
         valued = {x for x, _ in other}
-        for x, near in enumerate(all_near):
-            # Longer elements stand behind shorter ones.
-            first = max(x + 1, bisect.bisect_left(lengths, lengths[x] + least))
-            behind = near[bisect.bisect_left(near, first) :]
-            values = [other.get((x, y), 1) for y in behind] if x in valued else itertools.repeat(1)
-            yield zip(itertools.repeat(elements[x]), map(elements.__getitem__, behind), values)
+        for x, places in enumerate(behind):
+            if least > 1:
+                # Longer elements stand behind shorter ones.
+                first = bisect.bisect_left(lengths, lengths[x] + least)
+                places = places[bisect.bisect_left(places, first) :]
+            values = [other.get((x, y), 1) for y in places] if x in valued else itertools.repeat(1)
+            yield zip(itertools.repeat(elements[x]), map(elements.__getitem__, places), values)
 
     def steps(self) -> Iterator[Tuple[Element, Element, int]]:
         """The directed edges that make the cells: from x to a neighbour y, with the value, where some descent of x is
@@ -208,7 +225,7 @@ class WGraph(Drawn, Table):
     def _steps(self):
         """The steps, by the places of their elements."""
         sets = self._masks()
-        for x, near in enumerate(self._edges()[0]):
+        for x, near in enumerate(self._near()):
             mine = sets[x]
             for y in near:
                 if mine & ~sets[y]:
@@ -231,8 +248,11 @@ class WGraph(Drawn, Table):
         numbers = {kind: number for number, kind in enumerate(dict.fromkeys(kinds))}
         listed, own = list(numbers), [numbers[kind] for kind in kinds]
         reached: List[Set[int]] = [set() for _ in listed]
-        for of, near in zip(own, self._edges()[0]):
-            reached[of].update(map(own.__getitem__, near))
+        for of, places in zip(own, self._edges()[0]):
+            reached[of].update(map(own.__getitem__, places))
+        for of, kinds_behind in enumerate([list(it) for it in reached]):
+            for it in kinds_behind:
+                reached[it].add(of)
         found: Set[Tuple[Any, Any]] = set()
         for (name, mine), others in zip(listed, reached):
             found.update((name, other) for other, sets in map(listed.__getitem__, others) if mine & ~sets and other != name)
@@ -248,10 +268,10 @@ class WGraph(Drawn, Table):
             raise TypeError(f"the elements are a list of words, and {elements!r} is one text: write [{elements!r}]")
         chosen = sorted({self._places[it] for it in elements})
         new = {x: at for at, x in enumerate(chosen)}
-        all_near, all_other = self._edges()
-        near = [array.array("I", [new[y] for y in all_near[x] if y in new]) for x in chosen]
+        all_behind, all_other = self._edges()
+        behind = [tuple([new[y] for y in all_behind[x] if y in new]) for x in chosen]
         other = {(new[x], new[y]): value for (x, y), value in all_other.items() if x in new and y in new}
-        return WGraph(self.group, self.side, [self._elements[x] for x in chosen], [self._descents[x] for x in chosen], near, other)
+        return WGraph(self.group, self.side, [self._elements[x] for x in chosen], [self._descents[x] for x in chosen], behind, other)
 
     def rows(self) -> Iterator[Tuple[Any, ...]]:
         sets = dict(zip(self._elements, self._descents))

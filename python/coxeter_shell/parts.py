@@ -2,7 +2,6 @@
 groups that are infinite or too large for their whole W-graph. The package makes them of rows, and they are not proved."""
 from __future__ import annotations
 
-import array
 from typing import Dict, Iterable, Iterator, List, Set, Tuple
 
 from .base import Base, Element, Letters, Word
@@ -80,19 +79,19 @@ class Parts(Base):
         return Cells(self, cells_of([self.W_graph_of_coset(w, letters, side)]))
 
     def _part(self, side, elements, edges):
-        """The part of the W-graph that has these elements, in ShortLex order, and these edges."""
+        """The part of the W-graph that has these elements, in ShortLex order, and these edges, whose first elements are the shorter ones."""
         if side not in ("left", "right"):
             raise ValueError(f"the side is left or right, not {side!r}")
         places = {x: at for at, x in enumerate(elements)}
-        near: List[List[int]] = [[] for _ in elements]
+        behind: List[List[int]] = [[] for _ in elements]
         other: Dict[Tuple[int, int], int] = {}
         for x, y, value in edges:
-            for one, two in ((places[x], places[y]), (places[y], places[x])):
-                near[one].append(two)
-                if value != 1:
-                    other[one, two] = value
+            one, two = places[x], places[y]
+            behind[one].append(two)
+            if value != 1:
+                other[one, two] = other[two, one] = value
         descents = [it[side == "right"] for it in self._answers_of("descents", elements)]
-        return WGraph(self, side, elements, descents, [array.array("I", sorted(it)) for it in near], other)
+        return WGraph(self, side, elements, descents, [tuple(sorted(it)) for it in behind], other)
 
     def _edges_among(self, elements):
         """The triples of an x < y among some elements, which have with y the x <= y, and the value mu(x, y) other than 0."""

@@ -70,10 +70,10 @@ class Spelling:
     def letters(self, text):
         """The letters of a text."""
         if not self.dot:
-            found = tuple(text.encode("ascii", "replace").translate(self.bytes))
+            found = text.encode("ascii", "replace").translate(self.bytes)
             if 0 in found:
                 raise ValueError(f"{text[found.index(0)]!r} is no letter of the group")
-            return found
+            return tuple(found)
         try:
             return tuple(map(self.values.__getitem__, text.split(self.dot)))
         except KeyError as piece:

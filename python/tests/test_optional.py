@@ -11,8 +11,10 @@ import subprocess
 import tempfile
 import unittest
 
-from coxeter_shell import CoxeterGroup, Laurent, Polynomial, gap, pictures
+from coxeter_shell import CoxeterGroup, KazhdanLusztigTable, Laurent, Polynomial, gap, pictures
 from coxeter_shell import kinds as known_kinds
+
+TOP = os.path.dirname(os.path.dirname(os.path.dirname(os.path.abspath(__file__))))
 
 
 def has(name):
@@ -72,6 +74,23 @@ class Pandas(unittest.TestCase):
             cells = group.left_cells().to_frame()
             self.assertEqual(sorted(cells.groupby("cell").size()), [1, 1, 2, 2, 3, 3, 3, 3, 3, 3])
             self.assertEqual(pandas.Series([Polynomial([0, 1])] * 2).sum(), [0, 2])
+
+    def test_tables_in_files(self):
+        """By the call that the documents name words stay words: 2.1 and 2.10 are two."""
+        import pandas
+
+        page = os.path.join(TOP, "docs", "EXAMPLES.md")
+        if not os.path.exists(page):
+            self.skipTest("there is no checkout around these tests")
+        with open(page, encoding="utf-8") as text:
+            [call] = re.findall(r"`(read_csv\(.*?\))`", text.read())
+        with tempfile.TemporaryDirectory() as folder, CoxeterGroup("A", 10) as group:
+            path = os.path.join(folder, "ten.csv")
+            group.kazhdan_lusztig_table(["2.1", "2.10"], path=path)
+            frame = eval(call.replace('"ten.csv"', repr(path)), {"read_csv": pandas.read_csv})
+            self.assertEqual(frame.w.unique().tolist(), ["2.1", "2.10"])
+            self.assertEqual(frame[frame.w == "2.10"].x.tolist(), ["e", "2", "10", "2.10"])
+            self.assertEqual(KazhdanLusztigTable.read(path).to_frame().w.unique().tolist(), [(2, 1), (2, 10)])
 
 
 @unittest.skipUnless(has("numpy"), "numpy is not installed")

@@ -320,12 +320,12 @@ class Life(unittest.TestCase):
 class Finding(unittest.TestCase):
     """Where the program is looked for."""
 
-    def found(self, package, answer, environment=(), arguments=""):
-        """What a Python that has the package in this folder finds, or what it says."""
+    def found(self, package, answer, environment=(), arguments="", folder="/"):
+        """What a Python that has the package in this folder finds, or what it says, where it is run in that one."""
         source = f"from coxeter_shell import *\ntry: print(find_program({arguments}))\n"
         source += "except ProgramNotFound as error: print(error)"
         environment = {"PATH": "/usr/bin:/bin", "PYTHONPATH": package, **dict(environment)}
-        ran = subprocess.run([sys.executable, "-c", source], env=environment, stdout=subprocess.PIPE, cwd="/", check=True)
+        ran = subprocess.run([sys.executable, "-c", source], env=environment, stdout=subprocess.PIPE, cwd=folder, check=True)
         self.assertIn(answer, ran.stdout.decode())
 
     def test_each_place(self):
@@ -352,6 +352,9 @@ class Finding(unittest.TestCase):
             self.found(package, fake, {"COXETER": fake, **path})
             self.found(package, fake, {"COXETER": "/nowhere", **path}, repr(fake))
             self.found(package, os.path.join(tools, "coxeter"), {"COXETER": "coxeter", **path})
+            # What is given is a file of the folder where there is one of this name, and else a command.
+            self.found(package, os.path.join(tools, "coxeter"), path, "'coxeter'")
+            self.found(package, "./coxeter\n", path, "'coxeter'", folder=out)
             nowhere = "there is no program '/nowhere', which the environment variable COXETER names"
             self.found(package, nowhere, {"COXETER": "/nowhere"})
             self.found(package, "there is no program '/nowhere'\n", {"COXETER": fake}, "'/nowhere'")
@@ -624,12 +627,13 @@ class Late(unittest.TestCase):
             return popen(*words, **more)
 
         with fakes.Fakes() as folder, unittest.mock.patch.object(parents.subprocess, "Popen", slow):
-            with CoxeterGroup("A", 2, program=folder.fake("time.sleep(1000)"), timeout=0.2) as group:
-                begun = time.monotonic()
-                with self.assertRaises(QuestionTimeout) as caught:
-                    group.length("1")
-                self.assertLess(time.monotonic() - begun, 30)
-                self.assertEqual(caught.exception.line, "length 1")
+            for code in ("time.sleep(1000)", "say('1')"):
+                with CoxeterGroup("A", 2, program=folder.fake(code), timeout=0.2) as group:
+                    begun = time.monotonic()
+                    with self.assertRaises(QuestionTimeout) as caught:
+                        group.length("1")
+                    self.assertLess(time.monotonic() - begun, 30)
+                    self.assertEqual(caught.exception.line, "length 1")
 
     def test_just_in_time_or_late(self):
         """Whatever comes first, the answer or the end of the time: there is the answer or a QuestionTimeout."""
@@ -661,6 +665,12 @@ class Late(unittest.TestCase):
                 self.assertEqual(group.length("1"), 1)
                 with group.within(1e-5), self.assertRaises(QuestionTimeout):
                     group.bruhat_interval("e", longest)
+        with Program(group="type A 2") as program:
+            program.ask("length 1")
+            # The answer is there before it is read.
+            program.watch, program.timeout = lambda question, comes: (comes(60), time.sleep(0.5)), 0.3
+            with self.assertRaises(QuestionTimeout):
+                program.ask("length 12")
 
     def test_a_checker_that_stalls(self):
         with fakes.Fakes() as folder, CoxeterGroup("A", 2) as group:
