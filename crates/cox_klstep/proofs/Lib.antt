@@ -6,6 +6,7 @@ pub mod AddedSums
 pub mod NumberedLists
 pub mod NumberedRecursion
 pub mod Filtered
+pub mod LoweredLists
 pub mod NeededRows
 pub mod NeedsAmongNeighbours
 pub mod Chosen

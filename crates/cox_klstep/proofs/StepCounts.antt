@@ -48,17 +48,13 @@ module _ (e : Elements) (i : ℕ) where
     cost-end done new h extremal are =
         let count = h extremal are in omega (arith, count.3, times-more cost count.0 (length extremal) count.1)
 
-    -- one extremal member more, if it is below w
-    pub cost-next : (x new newer : ℕ) (is_below : Bool) → IsExtremal (integer_matrix e.matrix) (word_at e.members i) (word_at e.members x)
-        → x < length e.members
-        → (IsTrue is_below → IsBelow (integer_matrix e.matrix) (word_at e.members x) (word_at e.members i))
-        → (is_below ≡ false → newer ≡ new) → newer ≤ new + cost
+    -- one extremal member more that is below w
+    pub cost-next : (x new newer : ℕ) → IsExtremal (integer_matrix e.matrix) (word_at e.members i) (word_at e.members x)
+        → x < length e.members → IsBelow (integer_matrix e.matrix) (word_at e.members x) (word_at e.members i) → newer ≤ new + cost
         → IsWithinCostTo e i cost x old new → IsWithinCostTo e i cost (x + 1) old newer
-    cost-next x new newer false is inside below same most h extremal are =
-        cost-later x (x + 1) newer (omega arith) (rw (same refl) h) extremal are
-    cost-next x new newer true is inside below same most h extremal are =
+    cost-next x new newer is inside below most h extremal are =
         let count = h extremal are
-        in let at = are.whole x inside is (below refl)
+        in let at = are.whole x inside is below
         in let after : count.0 ≤ at.0 = ⊎_elim (λ (less : at.0 < count.0). absurd (omega (arith, count.2 at.0 less, at.2)))
         (λ (l : count.0 ≤ at.0). l) (cases_lt at.0 count.0)
         in let more = times-more cost (count.0 + 1) (at.0 + 1) (omega (arith, after))
@@ -81,23 +77,20 @@ module _ (e : Elements) (i old : ℕ) where
     kept = h.kept;
     each = λ extremal are k l m. ⊎_elim
         (λ (less : number_at extremal k < done). h.each extremal are k l less)
-        (λ (more : done ≤ number_at extremal k). absurd (bare (number_at extremal k) more m (are.extremal k l)))
+        (λ (more : done ≤ number_at extremal k). absurd (bare (number_at extremal k) more m (are.extremal k l) (are.below k l)))
         (cases_lt (number_at extremal k) done);
   }
 
-  -- one extremal member more: if it is below w, something was added up
-  pub counted-next : (x new newer : ℕ) (is_below : Bool)
-      → (IsBelow (integer_matrix e.matrix) (word_at e.members x) (word_at e.members i) → IsTrue is_below)
-      → (IsTrue is_below → counted new 1 ≤ newer) → new ≤ newer
-      → IsCountedTo e i x old new → IsCountedTo e i (x + 1) old newer
-  counted-next x new newer is_below below some kept h = record {
+  -- one extremal member more, for which something was added up
+  pub counted-next : (x new newer : ℕ) → counted new 1 ≤ newer → new ≤ newer → IsCountedTo e i x old new
+      → IsCountedTo e i (x + 1) old newer
+  counted-next x new newer some kept h = record {
     kept = omega (arith, kept, h.kept);
     each = λ extremal are k l m. ⊎_elim
         (λ (less : number_at extremal k < x). let before = h.each extremal are k l less in omega (arith, before, kept))
         (λ (more : x ≤ number_at extremal k).
         let is : number_at extremal k ≡ x = omega (arith, m, more)
-        in let one = some (below (rw is at (are.below k l)))
-        in first extremal are k l is one)
+        in first extremal are k l is some)
         (cases_lt (number_at extremal k) x);
   }
     where

@@ -1,4 +1,4 @@
--- Where a step leads from the extremal members up to one.
+-- Where a step leads from the extremal members below one.
 use Rattle.std.specs.Prelude.{◌≡◌, ℕ, ◌<◌, List, length, Some}
 use Rattle.cox_base.specs.declared.side.Side.{Side}
 use Rattle.cox_base.specs.IntegerMatrix.{integer_matrix}
@@ -8,7 +8,7 @@ use Rattle.cox_context.specs.Closed.{Elements}
 use Rattle.cox_context.specs.Numbers.{word_at}
 use Rattle.cox_context.specs.Numbering.{IsNumberOf}
 use Rattle.cox_row.specs.Rising.{number_at}
-use Rattle.cox_klstep.specs.ExtremalUpTo.{AreExtremalUpTo}
+use Rattle.cox_row.specs.ExtremalNumbers.{AreExtremal}
 use Rattle.cox_klstep.specs.declared.lowering.Lowered.{Lowered}
 use Rattle.cox_klstep.specs.declared.step.Step.{Step}
 
@@ -19,7 +19,7 @@ pub record AreLowered (e : Elements) (side : Side) (letter : ℕ) (numbers short
       (normal_form (integer_matrix e.matrix) (times_letter side letter (word_at e.members (number_at numbers k))))
       (Some (number_at shorter k))
 
--- both for the member i and a step to it
+-- the extremal members below the member i, with that for a step to it
 pub record IsLoweredBy (e : Elements) (i : ℕ) (step : Step) (lowered : Lowered) : Type 0 where
-  pub members : AreExtremalUpTo e i lowered.members.items
+  pub members : AreExtremal (integer_matrix e.matrix) e.members (word_at e.members i) lowered.members.items
   pub shorter : AreLowered e step.side step.letter lowered.members.items lowered.shorter.items

@@ -10,7 +10,7 @@ use Rattle.cox_klstep.specs.declared.plan.RowStart.TheVariants.{Done, Planned}
 use Rattle.cox_klstep.specs.declared.tables.Tables.{Tables}
 
 -- the row of the plan's member can be made by its step, from its rows; and the tables are laid out for that, with the index of the row of
--- the shorter element and the extremal members up to that one
+-- the shorter element and the extremal members below that one
 pub record IsPlan (e : Elements) (tables : Tables) (plan : RowPlan) : Type 0 where
   pub source : IsMadeFrom e plan.step.member plan.step plan.lower.now tables.index plan.needed.items
   pub lowered : IsLoweredBy e plan.step.member plan.step tables.lowered

@@ -1,5 +1,6 @@
 //! Makes the row of a member, one extremal member after another.
 ghost use Rattle.std.specs.Prelude.{◌≡◌, ℕ, ◌+◌, ◌<◌, ◌≤◌, length, IfOk, IfErr, IfSome, Some, pos, ◌≤ℤ◌, OnOk};
+ghost use Rattle.cox_base.specs.Bruhat.{IsBelow};
 ghost use Rattle.cox_base.specs.IntegerMatrix.{integer_matrix};
 ghost use Rattle.cox_base.specs.ShortLex.{normal_form};
 ghost use Rattle.cox_base.specs.SideDescents.{times_letter};
@@ -92,7 +93,7 @@ fn make_row(
     let i = task.member;
     let lowered = task.lowered;
     let _len = ctx.len();
-    let mut builder = RowBuilder::new(alloc, ctx, i);
+    let mut builder = RowBuilder::with_capacity(alloc, ctx, i, lowered.len())?;
     let mut cursor = FoundCursor::new(found);
     for k in 0..lowered.len() {
         let next = lowered.at(k);
@@ -104,7 +105,7 @@ fn make_row(
     builder.finish(alloc, ctx, i, task.limit)
 }
 
-/// One extremal member more, from which the step leads to the member `shorter`, with its polynomial if that was found before.
+/// One extremal x <= w more, from which the step leads to the member `shorter`, with its polynomial if that was found before.
 fn add_extremal(
     task: &RowTask,
     shorter: u32,
@@ -117,6 +118,8 @@ fn add_extremal(
     requires x { builder.old.done ≤ task.now.member }
     requires extremal { IsExtremal (integer_matrix task.now.ctx.now.matrix) (word_at task.now.ctx.now.members task.now.member)
         (word_at task.now.ctx.now.members builder.old.done) }
+    requires below { IsBelow (integer_matrix task.now.ctx.now.matrix) (word_at task.now.ctx.now.members builder.old.done)
+        (word_at task.now.ctx.now.members task.now.member) }
     requires shorter { IsNumberOf task.now.ctx.now.members (normal_form (integer_matrix task.now.ctx.now.matrix)
         (times_letter task.now.source.now.step.now.side task.now.source.now.step.now.letter
         (word_at task.now.ctx.now.members builder.old.done))) (Some shorter) }
@@ -134,9 +137,6 @@ fn add_extremal(
     let i = task.member;
     let _len = ctx.len();
     let x = builder.done();
-    if !put_polynomial(ctx, i, task.source, x, shorter, found, sums, steps) {
-        builder.skip(ctx, i);
-        return Ok(());
-    }
+    put_polynomial(ctx, i, task.source, x, shorter, found, sums, steps);
     builder.keep(ctx, i, sums, task.limit)
 }

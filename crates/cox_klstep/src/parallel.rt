@@ -197,7 +197,7 @@ fn find_one(
     let _len = task.ctx.len();
     let next = task.lowered.at(k);
     let mut steps = Steps::new();
-    if !put_polynomial(
+    put_polynomial(
         task.ctx,
         task.member,
         task.source,
@@ -206,9 +206,7 @@ fn find_one(
         None,
         sums,
         &mut steps,
-    ) {
-        return;
-    }
+    );
     let Ok(polynomial) = sums.close(alloc, task.limit) else {
         return;
     };

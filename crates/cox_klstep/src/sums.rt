@@ -117,32 +117,24 @@ fn add_known(
     steps.take();
 }
 
-/// The sums become those of P(x,w), for an extremal x from which the step leads to the member `shorter`; says whether x <= w.
+/// The sums become those of P(x,w), for an extremal x <= w from which the step leads to the member `shorter`.
 // fast: inlined, since a row that one thread makes then takes a twentieth fewer instructions
 #[inline(always)]
-fn sum_up(
-    ctx: &Context,
-    source: &Source,
-    x: u32,
-    shorter: u32,
-    sums: &mut Acc,
-    steps: &mut Steps,
-) -> bool
+fn sum_up(ctx: &Context, source: &Source, x: u32, shorter: u32, sums: &mut Acc, steps: &mut Steps)
     requires source { IsSource ctx.now source.now.step.now.member source.now }
     requires x { x < length ctx.now.members }
     requires extremal { IsExtremal (integer_matrix ctx.now.matrix) (word_at ctx.now.members source.now.step.now.member)
         (word_at ctx.now.members x) }
+    requires below { IsBelow (integer_matrix ctx.now.matrix) (word_at ctx.now.members x)
+        (word_at ctx.now.members source.now.step.now.member) }
     requires shorter { IsNumberOf ctx.now.members (normal_form (integer_matrix ctx.now.matrix)
         (times_letter source.now.step.now.side source.now.step.now.letter (word_at ctx.now.members x))) (Some shorter) }
     requires clear { (k : ℕ) → coefficient sums.old k ≡ pos 0 }
-    ensures below { IsTrue result ↔ IsBelow (integer_matrix ctx.now.matrix) (word_at ctx.now.members x)
-        (word_at ctx.now.members source.now.step.now.member) }
-    ensures value { IsTrue result → IsKazhdanLusztig (integer_matrix ctx.now.matrix) (word_at ctx.now.members x)
+    ensures value { IsKazhdanLusztig (integer_matrix ctx.now.matrix) (word_at ctx.now.members x)
         (word_at ctx.now.members source.now.step.now.member) (coefficient sums.new) }
     ensures steps { steps.new ≤ steps.old + source_cost source.now }
-    ensures some { IsTrue result → counted steps.old 1 ≤ steps.new }
+    ensures some { counted steps.old 1 ≤ steps.new }
     ensures kept { steps.old ≤ steps.new }
-    ensures none { result ≡ false → steps.new ≡ steps.old }
 {
     let _len = ctx.len();
     let step = source.step;
@@ -152,9 +144,7 @@ fn sum_up(
         shift: 0,
     };
     let found = indexed_polynomial(ctx, source.lower, source.index, step.lower, shorter);
-    if !add(ctx, found, &at_shorter, shorter, sums, steps) {
-        return false;
-    }
+    add(ctx, found, &at_shorter, shorter, sums, steps);
     let at_x = Term {
         number: step.lower,
         factor: 1,
@@ -163,7 +153,6 @@ fn sum_up(
     let found = indexed_polynomial(ctx, source.lower, source.index, step.lower, x);
     add(ctx, found, &at_x, x, sums, steps);
     correct(ctx, step, source.needed, x, sums, steps);
-    true
 }
 
 /// Takes the corrections off the sums.
@@ -221,8 +210,8 @@ fn take_off(
     add(ctx, found, &term, x, sums, steps);
 }
 
-/// The sums become those of P(x,w), for an extremal x from which the step leads to the member `shorter`; says whether x <= w. Where the
-/// polynomial was found before, that counts as one polynomial added up.
+/// The sums become those of P(x,w), for an extremal x <= w from which the step leads to the member `shorter`. Where the polynomial was
+/// found before, that counts as one polynomial added up.
 // fast: inlined, so that the loop over the extremal members is one piece of machine code
 #[inline(always)]
 pub(crate) fn put_polynomial(
@@ -234,28 +223,26 @@ pub(crate) fn put_polynomial(
     found: Option<&Poly>,
     sums: &mut Acc,
     steps: &mut Steps,
-) -> bool
+)
     requires i { i < length ctx.now.members }
     requires source { IsSource ctx.now i source.now }
     requires x { x < length ctx.now.members }
     requires found { IfSome found (λ p. IsFoundFor ctx.now i x p.now) }
     requires extremal { IsExtremal (integer_matrix ctx.now.matrix) (word_at ctx.now.members i) (word_at ctx.now.members x) }
+    requires below { IsBelow (integer_matrix ctx.now.matrix) (word_at ctx.now.members x) (word_at ctx.now.members i) }
     requires shorter { IsNumberOf ctx.now.members (normal_form (integer_matrix ctx.now.matrix)
         (times_letter source.now.step.now.side source.now.step.now.letter (word_at ctx.now.members x))) (Some shorter) }
-    ensures below { IsTrue result ↔ IsBelow (integer_matrix ctx.now.matrix) (word_at ctx.now.members x) (word_at ctx.now.members i) }
-    ensures value { IsTrue result → IsKazhdanLusztig (integer_matrix ctx.now.matrix) (word_at ctx.now.members x) (word_at ctx.now.members i)
+    ensures value { IsKazhdanLusztig (integer_matrix ctx.now.matrix) (word_at ctx.now.members x) (word_at ctx.now.members i)
         (coefficient sums.new) }
     ensures steps { steps.new ≤ steps.old + source_cost source.now }
-    ensures some { IsTrue result → counted steps.old 1 ≤ steps.new }
+    ensures some { counted steps.old 1 ≤ steps.new }
     ensures kept { steps.old ≤ steps.new }
-    ensures none { result ≡ false → steps.new ≡ steps.old }
 {
     sums.clear();
-    if let Some(polynomial) = found {
-        put_found(ctx, i, polynomial, x, sums, steps);
-        return true;
+    match found {
+        Some(polynomial) => put_found(ctx, i, polynomial, x, sums, steps),
+        None => sum_up(ctx, source, x, shorter, sums, steps),
     }
-    sum_up(ctx, source, x, shorter, sums, steps)
 }
 
 /// The sums become those of a polynomial that was found before. It counts as one polynomial added up.

@@ -11,7 +11,7 @@ pub struct RowTask<'a> {
     pub(crate) member: u32,
     /// What its polynomials come from.
     pub(crate) source: &'a Source<'a>,
-    /// The extremal members up to it.
+    /// The extremal members below it.
     pub(crate) lowered: &'a Lowered,
     /// How large a coefficient may be in absolute value.
     pub(crate) limit: i64,

@@ -11,4 +11,5 @@ pub mod Within
 pub mod Distinct
 pub mod LetterSets
 pub mod Raised
+pub mod Readers
 pub mod RowLists

@@ -17,6 +17,7 @@
 //! - `images`: a list of the images of members, by number
 //! - `member_map`: where a symmetry takes the members, by such a list or, for inversion alone, by the context
 //! - `raised`: raising a member by the descents of another
+//! - `reader`: a row made ready for many look-ups of polynomials
 //! - `look_up`: the polynomial and mu of any member, how many polynomials there are, and the extremal members
 //! - `search`: the place of a number in a list that rises
 //! - `row_index`: the same with no search, for the extremal members of one row
@@ -29,6 +30,7 @@ mod lower_rows;
 mod member_map;
 mod places;
 mod raised;
+mod reader;
 mod row;
 mod row_index;
 mod search;
@@ -39,5 +41,6 @@ pub use lower_rows::LowerRows;
 pub use member_map::MemberMap;
 pub use places::Places;
 pub use raised::{is_subset, raise_fully};
+pub use reader::RowReader;
 pub use row::{MU_LIMIT, Row, SharedPolynomials, Values};
 pub use row_index::RowIndex;

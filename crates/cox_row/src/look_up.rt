@@ -13,9 +13,9 @@ ghost use Rattle.cox_row.specs.RowOf.{IsRowAt, AreValuesOf};
 ghost use Rattle.cox_row.specs.Distinct.{HasDistinctPolynomials};
 
 use crate::Row;
-use crate::raised::{is_extremal, raise_fully};
-use crate::row::Values;
-use crate::row_index::{RowIndex, place_by_index};
+use crate::raised::is_extremal;
+use crate::reader::RowReader;
+use crate::row_index::RowIndex;
 use crate::search::place_of_number;
 use cox_context::Context;
 use cox_poly::PolyView;
@@ -32,14 +32,14 @@ pub fn polynomial<'a>(ctx: &Context, row: &'a Row, i: u32, x: u32) -> Option<Pol
         (word_at ctx.now.members i) (coefficient p)) }
     ensures exactly { IsSome result ↔ IsBelow (integer_matrix ctx.now.matrix) (word_at ctx.now.members x) (word_at ctx.now.members i) }
 {
-    found_polynomial(ctx, row, None, i, x)
+    RowReader::of(ctx, row, None, i).polynomial(ctx, x)
 }
 
 /// The same with the index of that row, which has no search among its extremal members.
 pub fn indexed_polynomial<'a>(
     ctx: &Context,
     row: &'a Row,
-    index: &RowIndex,
+    index: &'a RowIndex,
     i: u32,
     x: u32,
 ) -> Option<PolyView<'a>>
@@ -51,68 +51,7 @@ pub fn indexed_polynomial<'a>(
         (word_at ctx.now.members i) (coefficient p)) }
     ensures exactly { IsSome result ↔ IsBelow (integer_matrix ctx.now.matrix) (word_at ctx.now.members x) (word_at ctx.now.members i) }
 {
-    found_polynomial(ctx, row, Some(index), i, x)
-}
-
-/// The same with the index of that row, if there is one.
-fn found_polynomial<'a>(
-    ctx: &Context,
-    row: &'a Row,
-    index: Option<&RowIndex>,
-    i: u32,
-    x: u32,
-) -> Option<PolyView<'a>>
-    requires i { i < length ctx.now.members }
-    requires x { x < length ctx.now.members }
-    requires row { IsRowAt ctx.now i row.now }
-    requires index { IfSome index (λ index. IsIndexOf (arc_value row.now.values).extremal.items index.now) }
-    ensures value { IfSome result (λ p. IsKazhdanLusztig (integer_matrix ctx.now.matrix) (word_at ctx.now.members x)
-        (word_at ctx.now.members i) (coefficient p)) }
-    ensures exactly { IsSome result ↔ IsBelow (integer_matrix ctx.now.matrix) (word_at ctx.now.members x) (word_at ctx.now.members i) }
-{
-    let _len = ctx.len();
-    match row.view() {
-        None => kept_polynomial(ctx, row.values(), index, i, x),
-        Some(view) => {
-            let image = view.images.image(ctx, x)?;
-            kept_polynomial(ctx, row.values(), index, view.member, image)
-        }
-    }
-}
-
-/// P(x,v), for the member v with the number i, whose polynomials these are; `None` exactly where x <= v fails.
-fn kept_polynomial<'a>(
-    ctx: &Context,
-    values: &'a Values,
-    index: Option<&RowIndex>,
-    i: u32,
-    x: u32,
-) -> Option<PolyView<'a>>
-    requires i { i < length ctx.now.members }
-    requires x { x < length ctx.now.members }
-    requires values { AreValuesOf (integer_matrix ctx.now.matrix) ctx.now.members (word_at ctx.now.members i) values.now }
-    requires index { IfSome index (λ index. IsIndexOf values.now.extremal.items index.now) }
-    ensures value { IfSome result (λ p. IsKazhdanLusztig (integer_matrix ctx.now.matrix) (word_at ctx.now.members x)
-        (word_at ctx.now.members i) (coefficient p)) }
-    ensures exactly { IsSome result ↔ IsBelow (integer_matrix ctx.now.matrix) (word_at ctx.now.members x) (word_at ctx.now.members i) }
-{
-    let top = raise_fully(ctx, i, x)?;
-    let k = place_in(&values.extremal, index, top)?;
-    Some(values.pool.at(values.places.at(k) as usize))
-}
-
-/// The place of a number in a list that rises, if it is there; with the index of that list, if there is one.
-fn place_in(numbers: &[u32], index: Option<&RowIndex>, x: u32) -> Option<usize>
-    requires rising { AreRising numbers.now }
-    requires index { IfSome index (λ index. IsIndexOf numbers.now index.now) }
-    ensures within { IfSome result (λ k. k < length numbers.now) }
-    ensures place { IfSome result (λ k. number_at numbers.now k ≡ x) }
-    ensures none { IfNone result ((k : ℕ) → k < length numbers.now → number_at numbers.now k ≢ x) }
-{
-    match index {
-        Some(index) => place_by_index(numbers, index, x),
-        None => place_of_number(numbers, x),
-    }
+    RowReader::of(ctx, row, Some(index), i).polynomial(ctx, x)
 }
 
 /// mu(u,w), for the row of the member w with the number i and the member u with the number u.

@@ -1,5 +1,5 @@
 //! The places of polynomials in a pool.
-ghost use Rattle.std.specs.Prelude.{◌≡◌, ◌<◌, ◌++◌, ◌∷◌, [], length, OnOk, OnErr};
+ghost use Rattle.std.specs.Prelude.{◌≡◌, ◌<◌, ◌++◌, ◌∷◌, [], length, IfOk, OnOk, OnErr};
 ghost use Rattle.cox_row.specs.Rising.{number_at};
 
 use std::alloc::{AllocError, Global};
@@ -33,6 +33,16 @@ impl Places {
             narrow: Vec::new(alloc),
             wide: Vec::new(alloc),
         }
+    }
+
+    /// No places, with room for so many that fit into two bytes.
+    pub fn with_capacity(alloc: Global, count: usize) -> Result<Places, AllocError>
+        ensures { IfOk result (λ places. places ≡ []) }
+    {
+        Ok(Places {
+            narrow: Vec::with_capacity(alloc, count)?,
+            wide: Vec::new(alloc),
+        })
     }
 
     /// How many places there are.

@@ -27,9 +27,19 @@ pub fn raise_fully(ctx: &Context, i: u32, x: u32) -> Option<u32>
     requires x { x < length ctx.now.members }
     ensures { IsRaisedFully (integer_matrix ctx.now.matrix) ctx.now.members (word_at ctx.now.members i) (word_at ctx.now.members x) result }
 {
+    raise_by(ctx, i, ctx.left_descent_set(i), ctx.right_descent_set(i), x)
+}
+
+/// The same where the descents of w are known.
+#[inline(always)]
+pub(crate) fn raise_by(ctx: &Context, i: u32, left: u16, right: u16, x: u32) -> Option<u32>
+    requires i { i < length ctx.now.members }
+    requires x { x < length ctx.now.members }
+    requires left { AreLeftDescents (integer_matrix ctx.now.matrix) (word_at ctx.now.members i) left }
+    requires right { AreRightDescents (integer_matrix ctx.now.matrix) (word_at ctx.now.members i) right }
+    ensures { IsRaisedFully (integer_matrix ctx.now.matrix) ctx.now.members (word_at ctx.now.members i) (word_at ctx.now.members x) result }
+{
     let _len = ctx.len();
-    let left = ctx.left_descent_set(i);
-    let right = ctx.right_descent_set(i);
     let mut at = x;
     while at <= i {
         match raise_once(ctx, left, right, at) {
@@ -60,6 +70,7 @@ pub fn is_subset(wanted: u16, present: u16) -> bool
 }
 
 /// Where raising the member x by one letter leads, for a w with these descents.
+#[inline(always)]
 pub(crate) fn raise_once(ctx: &Context, left: u16, right: u16, x: u32) -> Raise
     requires admissible { IsAdmissible (integer_matrix ctx.now.matrix) }
     requires left { AreLetters ctx.now.matrix.rank left }

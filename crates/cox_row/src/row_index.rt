@@ -73,6 +73,7 @@ fn put_places(entries: &mut [u32], numbers: &[u32])
 }
 
 /// The place of a number in a list that has an index, if it is there.
+#[inline(always)]
 pub(crate) fn place_by_index(numbers: &[u32], index: &RowIndex, x: u32) -> Option<usize>
     requires index { IsIndexOf numbers.now index.now }
     ensures within { IfSome result (λ k. k < length numbers.now) }

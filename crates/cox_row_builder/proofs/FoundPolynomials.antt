@@ -14,16 +14,16 @@ use Rattle.cox_row.proofs.RisingNumbers.{each-push, rising-push, within-push, fo
 use Rattle.cox_row_builder.specs.LargeMembers.{IsWithinLimit}
 use Rattle.cox_row_builder.specs.Underway.{IsPooled, AreBegun}
 
--- no member from one to another is extremal
+-- no member from one to another is extremal and below w
 pub begun-pass : (A : IntegerMatrix) (members : List (List ℕ)) (w : List ℕ) (limit : ℤ) (q p : ℕ) (numbers places : List ℕ)
-    (pool : List (List ℤ)) → q ≤ p → ((x : ℕ) → q ≤ x → x < p → IsExtremal A w (word_at members x) → ⊥)
+    (pool : List (List ℤ)) → q ≤ p → ((x : ℕ) → q ≤ x → x < p → IsExtremal A w (word_at members x) → IsBelow A (word_at members x) w → ⊥)
     → AreBegun A members w limit q numbers places pool → AreBegun A members w limit p numbers places pool
 begun-pass A members w limit q p numbers places pool l bare h = record {
   rising = h.rising;
   before = λ k m. omega (arith, h.before k m, l);
   extremal = h.extremal;
   below = h.below;
-  whole = λ y m e b small. ⊎_elim (λ (less : y < q). h.whole y less e b small) (λ (more : q ≤ y). absurd (bare y more m e)) (cases_lt y q);
+  whole = λ y m e b small. ⊎_elim (λ (less : y < q). h.whole y less e b small) (λ (more : q ≤ y). absurd (bare y more m e b)) (cases_lt y q);
   polynomials = h.polynomials;
   small = h.small;
 }

@@ -30,8 +30,8 @@ large-start A members w limit = record {
 
 module _ (A : IntegerMatrix) (members : List (List ℕ)) (w : List ℕ) (limit : ℤ) (numbers : List ℕ) (coefficients : List LargeCoefficient)
   where
-    -- no member from one to another is extremal
-    pub large-pass : (q p : ℕ) → q ≤ p → ((x : ℕ) → q ≤ x → x < p → IsExtremal A w (word_at members x) → ⊥)
+    -- no member from one to another is extremal and below w
+    pub large-pass : (q p : ℕ) → q ≤ p → ((x : ℕ) → q ≤ x → x < p → IsExtremal A w (word_at members x) → IsBelow A (word_at members x) w → ⊥)
         → AreLarge A members w limit q numbers coefficients → AreLarge A members w limit p numbers coefficients
     large-pass q p l bare h = record {
       size = h.size;
@@ -39,7 +39,7 @@ module _ (A : IntegerMatrix) (members : List (List ℕ)) (w : List ℕ) (limit :
       before = λ k m. omega (arith, h.before k m, l);
       least = h.least;
       whole = λ x k c m e b large. ⊎_elim (λ (less : x < q). h.whole x k c less e b large)
-          (λ (more : q ≤ x). absurd (bare x more m e)) (cases_lt x q);
+          (λ (more : q ≤ x). absurd (bare x more m e b)) (cases_lt x q);
     }
 
     -- the next member is not below w, or has no coefficient above the limit

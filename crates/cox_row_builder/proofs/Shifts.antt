@@ -9,12 +9,13 @@ use Rattle.cox_base.specs.Admissible.{IsAdmissible}
 use Rattle.cox_base.specs.Element.{SameElement}
 use Rattle.cox_base.specs.ShortLex.{normal_form}
 use Rattle.cox_base.specs.Descents.{IsLeftDescent, IsRightDescent}
+use Rattle.cox_base.specs.Bruhat.{IsBelow}
 use Rattle.cox_reflect.proofs.Elements.{same-sym, same-trans, same-cons, same-push, same-square, same-push_twice}
 use Rattle.cox_reflect.proofs.Search.{normal_form-same, normal_form-equal, word_length-equal}
 use Rattle.cox_reflect.proofs.Roots.{left_descent-letter, descent-letter}
 use Rattle.cox_hecke.specs.Row.{IsMu}
 use Rattle.cox_hecke.proofs.AllRows.{mu-same}
-use Rattle.cox_hecke.proofs.Descended.{mu-left, mu-right, mu-shift_left, mu-shift_right}
+use Rattle.cox_hecke.proofs.Descended.{mu-below, mu-left, mu-right, mu-shift_left, mu-shift_right}
 use Rattle.cox_context.specs.Closed.{Elements, IsClosed}
 use Rattle.cox_context.specs.Numbers.{word_at}
 use Rattle.cox_context.specs.Numbering.{IsNumberOf}
@@ -199,7 +200,8 @@ module _ (A : IntegerMatrix) (g : IsAdmissible A) (members : List (List ℕ)) (c
 
     -- no member from q to p is extremal, and none is a shift
     pub noted-pass : (limit : ℤ) (q p least : ℕ) (numbers : List ℕ) (values : List ℤ) → q ≤ p → p ≤ least → IsLeastShift A members i q least
-        → ((x : ℕ) → q ≤ x → x < p → IsExtremal A (word_at members i) (word_at members x) → ⊥)
+        → ((x : ℕ) → q ≤ x → x < p → IsExtremal A (word_at members i) (word_at members x)
+        → IsBelow A (word_at members x) (word_at members i) → ⊥)
         → AreNoted A members (word_at members i) limit q numbers values → AreNoted A members (word_at members i) limit p numbers values
     noted-pass limit q p least numbers values l m h bare old = record {
       size = old.size;
@@ -209,7 +211,8 @@ module _ (A : IntegerMatrix) (g : IsAdmissible A) (members : List (List ℕ)) (c
       some = old.some;
       whole = λ u n u_less mu some small. ⊎_elim (λ (less : u < q). old.whole u n less mu some small)
           (λ (more : q ≤ u). absurd (h.none u more (omega (arith, u_less, m))
-          (mu-shift (word_at members u) n mu some (bare u more u_less))))
+          (mu-shift (word_at members u) n mu some
+          (λ e. bare u more u_less e (mu-below A g (word_at members u) (word_at members i) n mu some)))))
           (cases_lt u q);
     }
 

@@ -58,6 +58,7 @@ pub record IsUnderway (e : Elements) (i : ℕ) (limit : ℤ) (builder : RowBuild
       builder.large.coefficients.items
   pub next : IsLeastShift (integer_matrix e.matrix) e.members i builder.done builder.next
 
--- no member from one to another is extremal for the member i
+-- no member from one to another is both extremal for the member i and below it
 abbrev pub AreBare : Elements → ℕ → ℕ → ℕ → Type 0
-AreBare e i start end = (x : ℕ) → start ≤ x → x < end → ¬ IsExtremal (integer_matrix e.matrix) (word_at e.members i) (word_at e.members x)
+AreBare e i start end = (x : ℕ) → start ≤ x → x < end → IsExtremal (integer_matrix e.matrix) (word_at e.members i) (word_at e.members x)
+    → ¬ IsBelow (integer_matrix e.matrix) (word_at e.members x) (word_at e.members i)

@@ -21,6 +21,9 @@ use cox_poly::{Acc, PolyFault};
 use cox_row::{MU_LIMIT, Row};
 use std::alloc::{AllocError, Global};
 
+/// For how many values of mu a row has room at first, at most.
+const USUAL_MUS: usize = 64;
+
 /// A row that is being made: what it has of the members before one.
 #[derive(Drop)]
 pub struct RowBuilder {
@@ -35,20 +38,25 @@ pub struct RowBuilder {
 }
 
 impl RowBuilder {
-    /// Nothing is done.
-    pub fn new(alloc: Global, ctx: &Context, i: u32) -> RowBuilder
+    /// Nothing is done, and there is room for so many extremal members.
+    pub fn with_capacity(
+        alloc: Global,
+        ctx: &Context,
+        i: u32,
+        count: usize,
+    ) -> Result<RowBuilder, AllocError>
         requires { i < length ctx.now.members }
-        ensures underway { (limit : ℤ) → IsUnderway ctx.now i limit result }
-        ensures done { result.done ≡ 0 }
+        ensures underway { IfOk result (λ builder. (limit : ℤ) → IsUnderway ctx.now i limit builder) }
+        ensures done { IfOk result (λ builder. builder.done ≡ 0) }
     {
         let next = least_shift(ctx, i, 0);
-        RowBuilder {
-            values: RowPolynomials::new(alloc),
-            mus: Mus::new(alloc),
+        Ok(RowBuilder {
+            values: RowPolynomials::with_capacity(alloc, count)?,
+            mus: Mus::with_capacity(alloc, count.min(USUAL_MUS))?,
             large: LargeMembers::new(alloc),
             done: 0,
             next,
-        }
+        })
     }
 
     /// Gives back memory that is not used.
@@ -64,7 +72,7 @@ impl RowBuilder {
     }
 
     /// Notes mu = 1 for each shorter shift (sw or ws) among the members from those done up to
-    /// `end`. None of these members is extremal.
+    /// `end`. None of these members is both extremal and below w.
     pub fn pass(&mut self, ctx: &Context, i: u32, end: u32) -> Result<(), AllocError>
         requires i { i < length ctx.now.members }
         requires ahead { self.old.done ≤ end }
@@ -109,20 +117,6 @@ impl RowBuilder {
         }
         self.done = x + 1;
         Ok(())
-    }
-
-    /// One extremal member more, which is not below w.
-    pub fn skip(&mut self, ctx: &Context, i: u32)
-        requires i { i < length ctx.now.members }
-        requires x { self.old.done ≤ i }
-        requires extremal { IsExtremal (integer_matrix ctx.now.matrix) (word_at ctx.now.members i) (word_at ctx.now.members self.old.done) }
-        requires outside { ¬ IsBelow (integer_matrix ctx.now.matrix) (word_at ctx.now.members self.old.done) (word_at ctx.now.members i) }
-        ensures underway { (limit : ℤ) → IsUnderway ctx.now i limit self.old → IsUnderway ctx.now i limit self.new }
-        ensures done { self.new.done ≡ self.old.done + 1 }
-    {
-        let _len = ctx.len();
-        let _ = i;
-        self.done += 1;
     }
 
     /// The row of the member w with the number i, when each member up to it is done.

@@ -1,5 +1,5 @@
 //! The values of mu of a row that is being made.
-ghost use Rattle.std.specs.Prelude.{◌≡◌, ℕ, List, ◌+◌, ◌<◌, ℤ, length, OnOk};
+ghost use Rattle.std.specs.Prelude.{◌≡◌, ℕ, List, ◌+◌, ◌<◌, ℤ, length, IfOk, OnOk};
 ghost use Rattle.cox_base.specs.Admissible.{IsAdmissible};
 ghost use Rattle.cox_base.specs.IntegerMatrix.{IntegerMatrix, integer_matrix};
 ghost use Rattle.cox_poly.specs.Polynomial.{coefficient};
@@ -19,15 +19,15 @@ pub(crate) struct Mus {
 }
 
 impl Mus {
-    /// No members.
-    pub(crate) fn new(alloc: Global) -> Mus
-        ensures { (A : IntegerMatrix) → (members : List (List ℕ)) (w : List ℕ) (limit : ℤ)
-            → AreNoted A members w limit 0 result.numbers.items result.values.items }
+    /// No members, with room for so many.
+    pub(crate) fn with_capacity(alloc: Global, count: usize) -> Result<Mus, AllocError>
+        ensures { IfOk result (λ mus. (A : IntegerMatrix) → (members : List (List ℕ)) (w : List ℕ) (limit : ℤ)
+            → AreNoted A members w limit 0 mus.numbers.items mus.values.items) }
     {
-        Mus {
-            numbers: Vec::new(alloc),
-            values: Vec::new(alloc),
-        }
+        Ok(Mus {
+            numbers: Vec::with_capacity(alloc, count)?,
+            values: Vec::with_capacity(alloc, count)?,
+        })
     }
 
     /// One member more, with its value of mu, which may be 0.

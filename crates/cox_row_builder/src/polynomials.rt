@@ -24,16 +24,16 @@ pub(crate) struct RowPolynomials {
 }
 
 impl RowPolynomials {
-    /// No members.
-    pub(crate) fn new(alloc: Global) -> RowPolynomials
-        ensures { (A : IntegerMatrix) → (members : List (List ℕ)) (w : List ℕ) (limit : ℤ)
-            → AreBegun A members w limit 0 result.extremal.items result.places result.pool }
+    /// No members, with room for so many.
+    pub(crate) fn with_capacity(alloc: Global, count: usize) -> Result<RowPolynomials, AllocError>
+        ensures { IfOk result (λ values. (A : IntegerMatrix) → (members : List (List ℕ)) (w : List ℕ) (limit : ℤ)
+            → AreBegun A members w limit 0 values.extremal.items values.places values.pool) }
     {
-        RowPolynomials {
-            extremal: Vec::new(alloc),
-            places: Places::new(alloc),
+        Ok(RowPolynomials {
+            extremal: Vec::with_capacity(alloc, count)?,
+            places: Places::with_capacity(alloc, count)?,
             pool: Pool::new(alloc),
-        }
+        })
     }
 
     /// One extremal member more, whose polynomial has these sums; its place in the pool.

@@ -1,16 +1,14 @@
--- The shorter members so far.
-use Rattle.std.proofs.Common.{◌≡◌, ℕ, ◌<◌, length, Some}
+-- Those of the candidates so far that are below w, and where the step leads from them.
 use Rattle.cox_base.specs.IntegerMatrix.{integer_matrix}
-use Rattle.cox_base.specs.ShortLex.{normal_form}
-use Rattle.cox_base.specs.SideDescents.{times_letter}
+use Rattle.cox_base.specs.Bruhat.{IsBelow}
 use Rattle.cox_context.specs.Numbers.{word_at}
-use Rattle.cox_context.specs.Numbering.{IsNumberOf}
-use Rattle.cox_row.specs.Rising.{number_at}
+use Rattle.cox_klstep.specs.LoweredTo.{AreLowered}
+use Rattle.cox_klstep.proofs.PickedNumbers.{ArePicked}
 use Rattle.cox_klstep.proofs.lowering.lower_each.Given as goal
 
 abbrev pub invariant-loop-x : goal.invariant-loop-x
 invariant-loop-x l = record {
-  size : length l.shorter.items ≡ l.x-index;
-  each : (k : ℕ) → k < l.x-index → IsNumberOf l.ctx.members (normal_form (integer_matrix l.ctx.matrix)
-      (times_letter l.step.side l.step.letter (word_at l.ctx.members (number_at l.members k)))) (Some (number_at l.shorter.items k));
+  picked : ArePicked (λ x. IsBelow (integer_matrix l.ctx.matrix) (word_at l.ctx.members x) (word_at l.ctx.members l.step.member))
+      l.candidates l.x-index l.members.items;
+  lowered : AreLowered l.ctx l.step.side l.step.letter l.members.items l.shorter.items;
 }

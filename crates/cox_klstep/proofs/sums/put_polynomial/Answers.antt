@@ -14,8 +14,5 @@ sum_up-requires-clause-source c = record {
 pub sum_up-requires-clause-extremal : goal.sum_up-requires-clause-extremal
 sum_up-requires-clause-extremal c = rw c.requires.source.member c.requires.extremal
 
-pub returns-clause-below : goal.returns-clause-below
-returns-clause-below c = rw c.requires.source.member at c.sum_up.ensures.below
-
-pub returns-clause-value : goal.returns-clause-value
-returns-clause-value c = rw c.requires.source.member at c.sum_up.ensures.value
+pub sum_up-requires-clause-below : goal.sum_up-requires-clause-below
+sum_up-requires-clause-below c = rw c.requires.source.member c.requires.below

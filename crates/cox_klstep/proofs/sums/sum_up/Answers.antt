@@ -12,17 +12,6 @@ use Rattle.cox_klstep.proofs.NumberedRecursion.{below-lowered, sums-are}
 use Rattle.cox_klstep.proofs.StepCounts.{added-most}
 use Rattle.cox_klstep.proofs.sums.sum_up.Goals as goal
 
-pub returns-then-not-add-clause-below : goal.returns-then-not-add-clause-below
-returns-then-not-add-clause-below c =
-    let lowered = below-lowered c.args.source.now.step.now.side (integer_matrix c.args.ctx.now.matrix) c.len-len.ensures.admissible
-    c.args.ctx.now.members c.len-len.ensures.closed
-    c.args.source.now.step.now.member c.requires.source.step.within c.args.source.now.step.now.letter c.requires.source.step.descent
-    c.args.source.now.step.now.corrections.items c.requires.source.step.numbered c.args.x c.args.shorter c.args.source.now.step.now.lower
-    (extremal-descent c.args.source.now.step.now.side (integer_matrix c.args.ctx.now.matrix) c.args.source.now.step.now.letter
-    (word_at c.args.ctx.now.members c.args.source.now.step.now.member) (word_at c.args.ctx.now.members c.args.x) c.requires.extremal
-    c.requires.source.step.descent) c.requires.shorter.1 c.requires.source.step.lower_is
-    in (λ t. lowered.0 (c.if-not-add.ensures.below.0 t), λ b. c.if-not-add.ensures.below.1 (lowered.1 b))
-
 pub add-requires-2-clause-room : goal.add-requires-2-clause-room
 add-requires-2-clause-room c = λ k.
     let small = c.add.ensures.size 0 (λ j. rw (c.requires.clear j) (omega arith)) k in omega (arith, small)
@@ -33,19 +22,8 @@ correct-requires-clause-room c = λ k.
     (λ j. let first = c.add.ensures.size 0 (λ d. rw (c.requires.clear d) (omega arith)) j in omega (arith, first)) k
     in omega (arith, small)
 
-pub returns-clause-below : goal.returns-clause-below
-returns-clause-below c =
-    let lowered = below-lowered c.args.source.now.step.now.side (integer_matrix c.args.ctx.now.matrix) c.len-len.ensures.admissible
-    c.args.ctx.now.members c.len-len.ensures.closed
-    c.args.source.now.step.now.member c.requires.source.step.within c.args.source.now.step.now.letter c.requires.source.step.descent
-    c.args.source.now.step.now.corrections.items c.requires.source.step.numbered c.args.x c.args.shorter c.args.source.now.step.now.lower
-    (extremal-descent c.args.source.now.step.now.side (integer_matrix c.args.ctx.now.matrix) c.args.source.now.step.now.letter
-    (word_at c.args.ctx.now.members c.args.source.now.step.now.member) (word_at c.args.ctx.now.members c.args.x) c.requires.extremal
-    c.requires.source.step.descent) c.requires.shorter.1 c.requires.source.step.lower_is
-    in (λ t. lowered.0 (c.if-not-add.ensures.below.0 t), λ b. c.if-not-add.ensures.below.1 (lowered.1 b))
-
 pub returns-clause-value : goal.returns-clause-value
-returns-clause-value c = λ _.
+returns-clause-value c =
     let A : IntegerMatrix = integer_matrix c.args.ctx.now.matrix
     in let P : ℕ → Coefficients = λ u. kl_polynomial A c.len-len.ensures.admissible (word_at c.args.ctx.now.members c.args.x)
     (word_at c.args.ctx.now.members u)
@@ -71,15 +49,23 @@ returns-clause-value c = λ _.
 
 -- ---- what is counted
 
+-- the first one is added up, since sx is below sw
 pub returns-clause-steps : goal.returns-clause-steps
 returns-clause-steps c =
-    let one = c.add.ensures.one c.if-not-add.false
+    let first = added-most c.add.result c.args.steps.now c.add.new.steps c.add.ensures.one c.add.ensures.none
     in let most = added-most c.add-2.result c.add.new.steps c.add-2.new.steps c.add-2.ensures.one c.add-2.ensures.none
-    in omega (arith, one, most, c.correct.ensures.steps)
+    in omega (arith, first, most, c.correct.ensures.steps)
 
 pub returns-clause-some : goal.returns-clause-some
-returns-clause-some c = λ _.
-    let one = c.add.ensures.one c.if-not-add.false
+returns-clause-some c =
+    let lowered = below-lowered c.args.source.now.step.now.side (integer_matrix c.args.ctx.now.matrix) c.len-len.ensures.admissible
+    c.args.ctx.now.members c.len-len.ensures.closed
+    c.args.source.now.step.now.member c.requires.source.step.within c.args.source.now.step.now.letter c.requires.source.step.descent
+    c.args.source.now.step.now.corrections.items c.requires.source.step.numbered c.args.x c.args.shorter c.args.source.now.step.now.lower
+    (extremal-descent c.args.source.now.step.now.side (integer_matrix c.args.ctx.now.matrix) c.args.source.now.step.now.letter
+    (word_at c.args.ctx.now.members c.args.source.now.step.now.member) (word_at c.args.ctx.now.members c.args.x) c.requires.extremal
+    c.requires.source.step.descent) c.requires.shorter.1 c.requires.source.step.lower_is
+    in let one = c.add.ensures.one (c.add.ensures.below.1 (lowered.1 c.requires.below))
     in omega (arith, one, c.add-2.ensures.kept, c.correct.ensures.kept)
 
 pub returns-clause-kept : goal.returns-clause-kept

@@ -5,20 +5,20 @@ use Rattle.cox_context.specs.Numbers.{word_at}
 use Rattle.cox_context.proofs.Shifting.{later-not_below}
 use Rattle.cox_row.proofs.LetterBits.{left-letters, right-letters}
 use Rattle.cox_row.proofs.Raising.{raised-later, raised-outside, stands-trans}
-use Rattle.cox_row.proofs.raised.raise_fully.Goals as goal
+use Rattle.cox_row.proofs.raised.raise_by.Goals as goal
 
 pub loop-at-smaller : goal.loop-at-smaller
 loop-at-smaller c =
     let later = raised-later (integer_matrix c.args.ctx.now.matrix) c.len-len.ensures.admissible c.args.ctx.now.members
     c.len-len.ensures.closed (word_at c.args.ctx.now.members c.args.i) c.loop-at.at c.in-To.next c.loop-at.invariant.within
-    (c.in-To.ensures (word_at c.args.ctx.now.members c.args.i) c.left_descent_set-left.ensures c.right_descent_set-right.ensures)
+    (c.in-To.ensures (word_at c.args.ctx.now.members c.args.i) c.requires.left c.requires.right)
     in omega (arith, later.0)
 
 pub loop-at-preserved : goal.loop-at-preserved
 loop-at-preserved c =
     let later = raised-later (integer_matrix c.args.ctx.now.matrix) c.len-len.ensures.admissible c.args.ctx.now.members
     c.len-len.ensures.closed (word_at c.args.ctx.now.members c.args.i) c.loop-at.at c.in-To.next c.loop-at.invariant.within
-    (c.in-To.ensures (word_at c.args.ctx.now.members c.args.i) c.left_descent_set-left.ensures c.right_descent_set-right.ensures)
+    (c.in-To.ensures (word_at c.args.ctx.now.members c.args.i) c.requires.left c.requires.right)
     in record {
       within = later.1;
       stands = stands-trans (integer_matrix c.args.ctx.now.matrix) c.len-len.ensures.admissible c.loop-at.invariant.stands later.2;
@@ -27,7 +27,7 @@ loop-at-preserved c =
 pub returns-in-Outside : goal.returns-in-Outside
 returns-in-Outside c = λ b. raised-outside (integer_matrix c.args.ctx.now.matrix) c.len-len.ensures.admissible c.args.ctx.now.members
     c.len-len.ensures.closed c.loop-at.at c.args.i c.requires.i
-    (c.in-Outside.ensures (word_at c.args.ctx.now.members c.args.i) c.left_descent_set-left.ensures c.right_descent_set-right.ensures)
+    (c.in-Outside.ensures (word_at c.args.ctx.now.members c.args.i) c.requires.left c.requires.right)
     (c.loop-at.invariant.stands.to b)
 
 pub returns : goal.returns
@@ -36,8 +36,8 @@ returns c = λ b. later-not_below (integer_matrix c.args.ctx.now.matrix) c.len-l
 
 pub raise_once-requires-clause-left : goal.raise_once-requires-clause-left
 raise_once-requires-clause-left c = left-letters (integer_matrix c.args.ctx.now.matrix) c.len-len.ensures.admissible
-    (word_at c.args.ctx.now.members c.args.i) c.left_descent_set-left.result c.left_descent_set-left.ensures
+    (word_at c.args.ctx.now.members c.args.i) c.args.left c.requires.left
 
 pub raise_once-requires-clause-right : goal.raise_once-requires-clause-right
 raise_once-requires-clause-right c = right-letters (integer_matrix c.args.ctx.now.matrix) c.len-len.ensures.admissible
-    (word_at c.args.ctx.now.members c.args.i) c.right_descent_set-right.result c.right_descent_set-right.ensures
+    (word_at c.args.ctx.now.members c.args.i) c.args.right c.requires.right
