@@ -220,7 +220,6 @@ class Asked:
 
     def __init__(self, executor, what, items, chunksize):
         self.executor, self.what, self.items = executor, what, items
-        self.own = None  # the executor that is in the place of one that broke
         self.client = client_of(executor)
         order = sorted(range(len(items)), key=lambda k: -size(items[k]))
         self.chunks = [order[at : at + chunksize] for at in range(0, len(order), chunksize)]
@@ -306,18 +305,17 @@ class Asked:
     def mend(self, error):
         """Puts another pool of processes in the place of one that broke."""
         if isinstance(error, concurrent.futures.BrokenExecutor) and is_pool(self.executor) and self.executor._broken:
-            if self.own is not None:
-                self.own.shutdown(wait=False)
             it = self.executor
             more = {"mp_context": it._mp_context, "initializer": it._initializer, "initargs": it._initargs}
-            self.executor = self.own = concurrent.futures.ProcessPoolExecutor(it._max_workers, **more)
+            self.executor = concurrent.futures.ProcessPoolExecutor(it._max_workers, **more)
 
     def cancel(self):
         """Sees to it that what is still to be asked is not."""
         for future in self.futures.values():
             future.cancel()
-        if self.own is not None:
-            self.own.shutdown(wait=False)
+        # A pool of our own ends with its last question, since nobody holds it any more: Python 3.8 would lose its workers by
+        # `shutdown(wait=False)`, and wait for them at its own end.
+        self.executor = None
 
 
 def is_pool(executor):

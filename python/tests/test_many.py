@@ -428,7 +428,7 @@ class Table(unittest.TestCase):
     def test_all_rows(self):
         real = reference.group(3)
         with CoxeterGroup("A", 3) as group:
-            for executor in [None, *executors()]:
+            for executor in itertools.chain([None], executors()):
                 for certified in (False, True):
                     table = group.kazhdan_lusztig_table(executor=executor, chunksize=4, certified=certified)
                     self.assertEqual(list(table), list(real.words.values()))
