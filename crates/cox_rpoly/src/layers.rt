@@ -72,8 +72,8 @@ fn next_layer<W: Words, E: Element>(
     ensures links { IfOk result (λ r. AreLinks E.is_of (integer_matrix (W.matrix words.now)) s rest.now layer.keys r.0.keys r.1.items) }
     ensures sure { IsTrue E.is_sure → IfErr result (λ e. e ≡ NoMemory) }
 {
-    let mut next = IndexSet::new(alloc);
     let mut links = Vec::with_capacity(alloc, layer.len())?;
+    let mut next = IndexSet::new(alloc);
     put_links(words, s, rest, layer.as_slice(), &mut next, &mut links)?;
     Ok((next, links))
 }

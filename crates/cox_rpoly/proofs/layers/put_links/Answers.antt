@@ -1,4 +1,6 @@
 -- One element more is linked, and what is lacked then was lacked before.
+use Rattle.std.proofs.Common.{refl, arith}
+use Rattle.std.proofs.lemmas.List.{length-take-le}
 use Rattle.cox_base.specs.IntegerMatrix.{IntegerMatrix, integer_matrix}
 use Rattle.cox_rpoly.proofs.LayerMembers.{AreLinks-more, Extends-trans, IsLackedBy-before, if_that_err}
 use Rattle.cox_rpoly.proofs.layers.put_links.Goals as goal
@@ -24,3 +26,16 @@ loop-x-preserved g c =
           c.in_ok-link.ensures.extends;
       room = rw c.push_reserved.ensures.capacity c.loop-x.invariant.room;
     }
+
+pub push_reserved-requires : goal.push_reserved-requires
+push_reserved-requires g c =
+    let few = length-take-le c.loop-x.x-index c.args.layer.now (omega (arith, c.loop-x-test.true))
+    in omega (arith, few, c.loop-x.invariant.links.count, c.loop-x.invariant.room, c.loop-x-test.true, c.loop-x.links.ok)
+
+pub loop-x-init : goal.loop-x-init
+loop-x-init g c = record {
+  members = c.requires.members_next;
+  links = rw c.requires.none record { count = refl; each = λ i x l below. absurd (omega (arith, below)) };
+  extends = record { kept = λ i x at. at };
+  room = c.requires.room;
+}
