@@ -17,8 +17,8 @@ Each row is a question that has a long answer, or many short ones, asked in a pr
 
 With --before the package in another folder, say the `python` of another checkout, runs in turn with that of this one. Each figure is the least of
 all runs: `seconds` of the clock, `Python` the processor time of the Python process alone, without that of the program, and `MB` the most memory
-that the Python process had. `program` is the time of the clock of the program alone for the same lines, where the package asks few of them; its
-answer is read and dropped.
+that the Python process had. `program` is the time of the clock of the program alone for the same lines, and `processor` its processor time; its
+answer is dropped. On a machine that is busy, the processor times tell more.
 """
 import argparse
 import json
@@ -67,7 +67,8 @@ def counted(item):
 
 
 def alone(name, program):
-    """How long the program alone takes for the same lines. A command of one word is asked for each element."""
+    """How long the program alone takes for the same lines, by the clock and in processor time; None where the package asks what it has worked
+    out of answers. A command of one word is asked for each element."""
     (letter, rank), _, lines = NAMES[name]
     if lines is None:
         return None
@@ -75,9 +76,15 @@ def alone(name, program):
         asked = subprocess.run([program], input=f"type {letter} {rank}\nlwgraph\n".encode(), stdout=subprocess.PIPE, check=True)
         lines = [f"{lines} {it.split()[0]}" for it in asked.stdout.decode("ascii").splitlines()[1:]]
     script = "\n".join([f"type {letter} {rank}", *lines, ""])
-    begun = time.monotonic()
+    begun, used = time.monotonic(), of_children()
     subprocess.run([program], input=script.encode(), stdout=subprocess.DEVNULL, check=True)
-    return time.monotonic() - begun
+    return time.monotonic() - begun, of_children() - used
+
+
+def of_children():
+    """The processor time of the processes that this one has waited for."""
+    used = resource.getrusage(resource.RUSAGE_CHILDREN)
+    return used.ru_utime + used.ru_stime
 
 
 def main():
@@ -96,7 +103,7 @@ def main():
     if given.before:
         folders = {"before": os.path.abspath(given.before), **folders}
     head = "".join(f"{f'{it} seconds':>17}{'Python':>9}{'MB':>7}" for it in folders)
-    print(f"{'':23}{head}{'program':>9}")
+    print(f"{'':23}{head}{'program':>9}{'processor':>11}")
     for name in NAMES:
         if given.only not in (None, name):
             continue
@@ -114,7 +121,9 @@ def main():
         for it in folders:
             seconds, used, memory = map(min, zip(*found[it]))
             row += f"{seconds:17.2f}{used:9.2f}{memory:7.0f}"
-        print(f"{name:23}{row}{'' if least[0] is None else f'{min(least):9.2f}'}", flush=True)
+        if least[0] is not None:
+            row += "{:9.2f}{:11.2f}".format(*map(min, zip(*least)))
+        print(f"{name:23}{row}", flush=True)
 
 
 main()
