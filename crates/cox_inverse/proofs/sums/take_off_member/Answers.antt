@@ -9,8 +9,8 @@ use Rattle.cox_inverse.proofs.sums.take_off_member.Goals as goal
 
 pub overflow_sub-difference : goal.overflow_sub-difference
 overflow_sub-difference c =
-    let less = lengths-below c.args.ctx.now c.len-len.ensures.admissible c.len-len.ensures.closed c.args.x c.args.z c.requires.x c.requires.z
-    (c.in-Some.ensures.exactly.0 refl)
+    let less = lengths-below c.args.ctx.now c.len-len.ensures.admissible c.len-len.ensures.closed c.args.x c.args.z c.requires.x
+    c.requires.z (c.in-Some.ensures.exactly.0 refl)
     in omega (arith, less, c.length.ensures.length, c.length-in-Some.ensures.length)
 
 pub take_off-requires-clause-p_degree : goal.take_off-requires-clause-p_degree
