@@ -66,7 +66,7 @@ SAID = [
     ("docs/MANUAL.md", "| `--context N` | 1 to {} |", "cox_options", "MAX_CONTEXT"),
     ("docs/MANUAL.md", "| `--coef N` | 1 to {} |", "cox_options", "MAX_COEF"),
     ("docs/MANUAL.md", "| `--roots N` | 1 to {} |", "cox_options", "MAX_ROOTS"),
-    ("docs/MANUAL.md", "A line has at most {} bytes", "cox_outside", "LINE_LIMIT"),
+    ("docs/MANUAL.md", "A line has at most {} bytes", "cox_tokens", "LINE_LIMIT"),
     ("docs/MANUAL.md", "The input has at most {} bytes", "cox_outside", "INPUT_LIMIT"),
     ("docs/MANUAL.md", "A word has at most {} letters", "cox_base", "MAX_LETTERS"),
     ("docs/MANUAL.md", "A **number** is 1 to {} decimal digits", "cox_tokens", "MAX_DIGITS"),

@@ -24,7 +24,7 @@ from coxeter_shell import polynomial, program, prompt_words  # noqa: E402
 
 # The file of a crate and the constant there, and what the package has.
 LIMITS = [
-    ("cox_outside/src/limits.rt", "LINE_LIMIT", program.MOST_OF_LINE),
+    ("cox_tokens/src/limits.rt", "LINE_LIMIT", program.MOST_OF_LINE),
     ("cox_outside/src/limits.rt", "INPUT_LIMIT", program.MOST_OF_INPUT),
     ("cox_shell/src/limits.rt", "MAX_BLOCKS", program.MOST_OF_BLOCKS),
     ("cox_shell/src/limits.rt", "MAX_LINES", program.MOST_OF_JOBS),
@@ -48,7 +48,7 @@ LIMITS = [
 # The number of a refusal or of an exit status, and the limits that its text has to name.
 NAMED = [
     (errors.MEANINGS, 17, [("cox_base/src/limits.rt", "MAX_LETTERS")]),
-    (errors.MEANINGS, 18, [("cox_outside/src/limits.rt", "LINE_LIMIT")]),
+    (errors.MEANINGS, 18, [("cox_tokens/src/limits.rt", "LINE_LIMIT")]),
     (errors.MEANINGS, 31, [("cox_certtext/src/limits.rt", "MAX_LISTED")]),
     (errors.MEANINGS, 34, [("cox_rpoly/src/lib.rt", "MAX_DIFFERENCE")]),
     (errors.MEANINGS, 35, [("cox_shell/src/limits.rt", "MAX_BLOCKS"), ("cox_shell/src/limits.rt", "MAX_LINES")]),
@@ -57,7 +57,7 @@ NAMED = [
 
 # The same of what stands in gap/lib/program.gi.
 LIMITS_OF_GAP = [
-    ("cox_outside/src/limits.rt", "LINE_LIMIT", "MostOfLine"),
+    ("cox_tokens/src/limits.rt", "LINE_LIMIT", "MostOfLine"),
     ("cox_base/src/limits.rt", "MAX_LETTERS", "MostOfWord"),
 ]
 
@@ -67,14 +67,14 @@ LIMITS_OF_CHECKS = [
     ("certificates.py", "MOST_RANK", "cox_base/src/limits.rt", "MAX_RANK"),
     ("certificates.py", "MOST_LETTERS", "cox_base/src/limits.rt", "MAX_LETTERS"),
     ("certificates.py", "MOST_ENTRIES", "cox_certtext/src/limits.rt", "MAX_LISTED"),
-    ("certificates.py", "MOST_OF_LINE", "cox_outside/src/limits.rt", "LINE_LIMIT"),
+    ("certificates.py", "MOST_OF_LINE", "cox_tokens/src/limits.rt", "LINE_LIMIT"),
     ("certificates.py", "MOST_OF_INPUT", "cox_outside/src/limits.rt", "INPUT_LIMIT"),
     ("certificates.py", "MOST_LENGTH", "cox_rpoly/src/lib.rt", "MAX_DIFFERENCE"),
     ("certificates.py", "MOST_DEGREE", "cox_certtext/src/limits.rt", "MAX_DEGREE"),
     ("certificates.py", "MOST_COEFFICIENT", "cox_certtext/src/limits.rt", "MAX_CHECKED_COEFFICIENT"),
     ("jobs.py", "MOST_BLOCKS", "cox_shell/src/limits.rt", "MAX_BLOCKS"),
     ("jobs.py", "MOST_LINES", "cox_shell/src/limits.rt", "MAX_LINES"),
-    ("jobs.py", "MOST_BYTES", "cox_outside/src/limits.rt", "LINE_LIMIT"),
+    ("jobs.py", "MOST_BYTES", "cox_tokens/src/limits.rt", "LINE_LIMIT"),
     ("jobs.py", "MOST_OF_INPUT", "cox_outside/src/limits.rt", "INPUT_LIMIT"),
     ("program.py", "MOST_BYTES", "cox_outside/src/limits.rt", "INPUT_LIMIT"),
     ("hostile.py", "MOST_BYTES", "cox_outside/src/limits.rt", "INPUT_LIMIT"),

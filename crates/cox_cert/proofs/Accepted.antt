@@ -12,10 +12,11 @@ use Rattle.cox_base.specs.Admissible.{IsCoxeterMatrix}
 use Rattle.cox_base.specs.WordText.{word_text}
 use Rattle.cox_poly.specs.PolynomialText.{polynomial_text}
 use Rattle.cox_polyread.proofs.Splits.{AreNot}
-use Rattle.cox_outside.specs.Line.{line_feed, lines_of, content_of, is_foreign}
-use Rattle.cox_outside.specs.Unbroken.{IsUnbroken}
-use Rattle.cox_outside.specs.declared.limits.TheConstants.{LINE_LIMIT, INPUT_LIMIT}
-use Rattle.cox_outside.proofs.Lines.{lines_of-line}
+use Rattle.cox_tokens.specs.Line.{line_feed, lines_of, content_of, is_foreign}
+use Rattle.cox_tokens.specs.Unbroken.{IsUnbroken}
+use Rattle.cox_tokens.specs.declared.limits.TheConstants.{LINE_LIMIT}
+use Rattle.cox_outside.specs.declared.limits.TheConstants.{INPUT_LIMIT}
+use Rattle.cox_tokens.proofs.Lines.{lines_of-line}
 use Rattle.cox_certtext.specs.declared.limits.TheConstants.{MAX_LISTED}
 use Rattle.cox_rowcheck.specs.CheckablePolynomials.{IsCheckable}
 use Rattle.cox_certtext.specs.Certificate.{Certificate, IsShortWord, IsCertificate, IsTextEntry, Gives, entry_line, end_line, matrix_line}

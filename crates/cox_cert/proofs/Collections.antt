@@ -7,10 +7,11 @@ use Rattle.std.specs.Io.KnownBytes.{prepend_known, IsAtEnd}
 use Rattle.std.proofs.lemmas.List.{append-nil}
 use Rattle.std.proofs.lemmas.List.Elements.{All-nil, All-push}
 use Rattle.std.proofs.lemmas.Option.{IfSome_then}
-use Rattle.cox_outside.specs.declared.limits.TheConstants.{LINE_LIMIT, INPUT_LIMIT}
+use Rattle.cox_tokens.specs.declared.limits.TheConstants.{LINE_LIMIT}
+use Rattle.cox_outside.specs.declared.limits.TheConstants.{INPUT_LIMIT}
 use Rattle.cox_outside.specs.declared.line_reader.Stop.{Stop}
 use Rattle.cox_outside.specs.declared.line_reader.Stop.TheVariants as stop
-use Rattle.cox_outside.specs.Line.{content_of, is_foreign}
+use Rattle.cox_tokens.specs.Line.{content_of, is_foreign}
 use Rattle.cox_outside.specs.Ahead.{Ahead, ahead, Takes, MeetsEnd, MeetsLimit}
 use Rattle.cox_outside.specs.Reader.{Reader, TakesNext, fresh_reader}
 use Rattle.cox_outside.proofs.Known.{prepend_known-append, prepend_known-none}

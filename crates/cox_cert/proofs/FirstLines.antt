@@ -6,8 +6,8 @@ use Rattle.std.proofs.lemmas.List.{length-map}
 use Rattle.std.proofs.lemmas.List.Quantifiers.{position-Some}
 use Rattle.std.proofs.lemmas.List.Elements.{All-head, All-tail}
 use Rattle.cox_base.specs.Matrix.{CoxeterMatrix}
-use Rattle.cox_outside.specs.Line.{is_foreign}
-use Rattle.cox_outside.specs.declared.limits.TheConstants.{LINE_LIMIT}
+use Rattle.cox_tokens.specs.Line.{is_foreign}
+use Rattle.cox_tokens.specs.declared.limits.TheConstants.{LINE_LIMIT}
 use Rattle.cox_certtext.specs.declared.limits.TheConstants.{MAX_LISTED}
 use Rattle.cox_certtext.specs.Certificate.{Certificate, IsShortWord, IsTextEntry, IsCertificate, Gives}
 use Rattle.cox_certtext.specs.Certificate.{matrix_line, top_line, count_line, entry_line, end_line, certificate_lines}

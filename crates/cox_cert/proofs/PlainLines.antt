@@ -14,7 +14,7 @@ use Rattle.cox_base.specs.WordText.{word_text}
 use Rattle.cox_poly.specs.Numerals.{digits_below, number_text, integer_text}
 use Rattle.cox_poly.specs.PolynomialText.{power_text, factor_text, term_text, plus_text, next_term_text, terms_text, terms, polynomial_text}
 use Rattle.cox_polyread.proofs.Splits.{AreNot, AreNot-append}
-use Rattle.cox_outside.specs.Line.{is_foreign}
+use Rattle.cox_tokens.specs.Line.{is_foreign}
 use Rattle.cox_certtext.specs.declared.limits.TheConstants.{MAX_LISTED}
 use Rattle.cox_certtext.specs.Certificate.{Certificate, IsCertificate, IsTextEntry, matrix_line, top_line, count_line, entry_line, end_line}
 use Rattle.cox_certtext.specs.Certificate.{certificate_lines}

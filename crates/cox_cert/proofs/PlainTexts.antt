@@ -5,7 +5,7 @@ use Rattle.std.specs.List.{flat_map, All}
 use Rattle.std.proofs.lemmas.Bool.Decides.{nat_tests}
 use Rattle.std.proofs.lemmas.Fmt.{decimal_by_steps, length-decimal-le}
 use Rattle.std.proofs.lemmas.List.Elements.{All-head, All-tail}
-use Rattle.cox_outside.specs.Line.{is_foreign}
+use Rattle.cox_tokens.specs.Line.{is_foreign}
 use Rattle.cox_polyread.proofs.Splits.{AreNot, AreNot-append}
 
 -- a numeral is made of digits

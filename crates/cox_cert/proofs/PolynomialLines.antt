@@ -13,7 +13,7 @@ use Rattle.cox_poly.proofs.Terms.{terms_from}
 use Rattle.cox_certtext.specs.declared.limits.TheConstants.{MAX_DEGREE}
 use Rattle.cox_rowcheck.specs.CheckablePolynomials.{IsCheckable}
 use Rattle.cox_cert.proofs.PlainTexts.{IsPlainText, plain-append, plain-more, plain-cond, decimal-plain, AreNot-behind}
-use Rattle.cox_outside.specs.Line.{is_foreign}
+use Rattle.cox_tokens.specs.Line.{is_foreign}
 
 -- coefficients of few digits
 abbrev IsShort : ℤ → Type 0

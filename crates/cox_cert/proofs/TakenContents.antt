@@ -6,11 +6,11 @@ use Rattle.std.specs.Io.KnownBytes.{prepend_known, IsAtEnd}
 use Rattle.std.proofs.lemmas.List.{append-nil}
 use Rattle.cox_outside.specs.declared.line_reader.Stop.{Stop}
 use Rattle.cox_outside.specs.declared.line_reader.Stop.TheVariants as stop
-use Rattle.cox_outside.specs.Line.{line_feed, lines_of, content_of}
-use Rattle.cox_outside.specs.Unbroken.{IsUnbroken}
+use Rattle.cox_tokens.specs.Line.{line_feed, lines_of, content_of}
+use Rattle.cox_tokens.specs.Unbroken.{IsUnbroken}
 use Rattle.cox_outside.specs.Ahead.{Ahead, Takes, MeetsEnd}
 use Rattle.cox_outside.specs.Reader.{TakesNext}
-use Rattle.cox_outside.proofs.Lines.{lines_of-line, lines_of-last}
+use Rattle.cox_tokens.proofs.Lines.{lines_of-line, lines_of-last}
 use Rattle.cox_outside.proofs.Taking.{Takes-none, Takes-append}
 use Rattle.cox_certtext.specs.Certificate.{contents}
 

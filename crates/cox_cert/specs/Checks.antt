@@ -4,7 +4,7 @@ use Rattle.std.specs.Prelude.{Option, IfSome}
 use Rattle.std.specs.Borrow.{Bor}
 use Rattle.std.specs.Io.KnownBytes.{prepend_known, IsAtEnd}
 use Rattle.cox_outside.specs.declared.limits.TheConstants.{INPUT_LIMIT}
-use Rattle.cox_outside.specs.Line.{line_feed}
+use Rattle.cox_tokens.specs.Line.{line_feed}
 use Rattle.cox_outside.specs.Supply.{Supply, SourceCause}
 use Rattle.cox_outside.specs.Outlet.{Outlet, Writes, SinkCause, IsPrefix}
 use Rattle.cox_cert.specs.declared.status.Cause.{Cause}

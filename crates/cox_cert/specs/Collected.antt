@@ -1,9 +1,10 @@
 -- For code: how the lines of a source are taken, one by one.
 use Rattle.std.specs.Prelude.{◌≡◌, ◌⊎◌, ◌<◌, ◌≤◌, ℕ, Bool, true, false, List, [], ◌∷◌, ◌++◌, length, Option, Some, IfSome, Result, Ok, Err}
-use Rattle.cox_outside.specs.declared.limits.TheConstants.{LINE_LIMIT, INPUT_LIMIT}
+use Rattle.cox_tokens.specs.declared.limits.TheConstants.{LINE_LIMIT}
+use Rattle.cox_outside.specs.declared.limits.TheConstants.{INPUT_LIMIT}
 use Rattle.cox_outside.specs.declared.line_reader.Stop.{Stop}
 use Rattle.cox_outside.specs.declared.line_reader.Stop.TheVariants as stop
-use Rattle.cox_outside.specs.Line.{content_of}
+use Rattle.cox_tokens.specs.Line.{content_of}
 use Rattle.cox_outside.specs.Ahead.{Ahead, MeetsEnd, MeetsFault, MeetsLimit}
 use Rattle.cox_outside.specs.Reader.{TakesNext}
 use Rattle.cox_cert.specs.declared.status.Cause.TheVariants.{Grammar}

@@ -1,6 +1,6 @@
 //! A certificate, as far as its lines are read.
 ghost use Rattle.std.specs.Prelude.{◌≡◌, ℕ, ◌<◌, ◌≤◌, List, [], ◌∷◌, ◌++◌, length, vec_len, IfOk, IsTrue};
-ghost use Rattle.cox_outside.specs.declared.limits.TheConstants.{LINE_LIMIT};
+ghost use Rattle.cox_tokens.specs.declared.limits.TheConstants.{LINE_LIMIT};
 ghost use Rattle.cox_cert.specs.Drafts.{IsForm, Forms, Finishes};
 
 use crate::matrix_reading::read_matrix;

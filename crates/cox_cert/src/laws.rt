@@ -1,6 +1,6 @@
 //! Laws of certificates, of the verdicts on them and of whole checks: functions with an empty body, whose contracts state them.
 ghost use Rattle.std.specs.Prelude.{◌≡◌, ◌≤◌, ◌++◌, ◌∷◌, [], ℕ, List, length, true, IsSomeAnd};
-ghost use Rattle.cox_outside.specs.Line.{line_feed};
+ghost use Rattle.cox_tokens.specs.Line.{line_feed};
 ghost use Rattle.cox_outside.specs.declared.limits.TheConstants.{INPUT_LIMIT};
 ghost use Rattle.cox_outside.specs.Supply.{Supply};
 ghost use Rattle.cox_outside.specs.Outlet.{Outlet};

@@ -5,8 +5,7 @@ ghost use Rattle.cox_base.specs.WordText.{word_text};
 ghost use Rattle.cox_certtext.specs.Certificate.{IsShortWord};
 
 use cox_base::{MAX_RANK, Word, read_word};
-use cox_outside::LINE_LIMIT;
-use cox_tokens::{MAX_DIGITS, read_number};
+use cox_tokens::{LINE_LIMIT, MAX_DIGITS, read_number};
 
 /// What stands behind this text, if the line begins with it.
 pub(crate) fn behind<'a>(line: &'a [u8], prefix: &[u8]) -> Option<&'a [u8]>

@@ -6,10 +6,10 @@ ghost use Rattle.cox_cert.specs.LineReading.{ReadsPolynomial, ReadsEntry};
 use crate::parts::{behind, cut, read_decimal, read_letters};
 use cox_base::{MAX_RANK, Word};
 use cox_certtext::{MAX_DEGREE, MAX_LISTED};
-use cox_outside::LINE_LIMIT;
 use cox_poly::Poly;
 use cox_polyread::{TextFault, read_polynomial};
 use cox_rowcheck::is_checkable;
+use cox_tokens::LINE_LIMIT;
 use std::alloc::{AllocError, Global};
 
 /// What a line of the list gives.

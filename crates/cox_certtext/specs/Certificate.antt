@@ -7,8 +7,8 @@ use Rattle.cox_base.specs.Admissible.{IsCoxeterMatrix}
 use Rattle.cox_base.specs.WordText.{word_text}
 use Rattle.cox_base.specs.declared.limits.TheConstants.{MAX_RANK, MAX_LETTERS}
 use Rattle.cox_poly.specs.Polynomial.{IsPolynomial}
-use Rattle.cox_outside.specs.Line.{line_feed, lines_of, content_of}
-use Rattle.cox_outside.specs.declared.limits.TheConstants.{LINE_LIMIT}
+use Rattle.cox_tokens.specs.Line.{line_feed, lines_of, content_of}
+use Rattle.cox_tokens.specs.declared.limits.TheConstants.{LINE_LIMIT}
 use Rattle.cox_print.specs.AnswerText.{pair_text}
 use Rattle.cox_certtext.specs.declared.limits.TheConstants.{MAX_LISTED}
 

@@ -2,7 +2,7 @@
 use Rattle.std.specs.Prelude.{ℕ, List, ◌∷◌, ◌++◌, codes, decimal}
 use Rattle.std.specs.List.{flat_map}
 use Rattle.cox_base.specs.Matrix.{CoxeterMatrix}
-use Rattle.cox_outside.specs.Line.{line_feed}
+use Rattle.cox_tokens.specs.Line.{line_feed}
 use Rattle.cox_certtext.specs.Certificate.{matrix_line, top_line, end_line}
 
 -- a label in the first line

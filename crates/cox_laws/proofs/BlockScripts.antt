@@ -1,7 +1,7 @@
 -- The lines of a block are answered as a script.
 use Rattle.std.proofs.Common.{◌≡◌, ℕ, List, [], ◌∷◌, None, map, sym, suc, arith}
 use Rattle.std.specs.Prelude.{All}
-use Rattle.cox_outside.specs.Line.{content_of}
+use Rattle.cox_tokens.specs.Line.{content_of}
 use Rattle.cox_shell.specs.Reply.{State, Reply}
 use Rattle.cox_shell.specs.ContentReply.{IsContentReply}
 use Rattle.cox_shell.specs.Blocks.{AreBlockLineReplies}

@@ -29,7 +29,7 @@ use Rattle.cox_context.proofs.ShortLexLists.{HasMoreThan-listed}
 use Rattle.cox_certtext.specs.declared.limits.TheConstants.{MAX_LISTED, MAX_DEGREE, MAX_CHECKED_COEFFICIENT}
 use Rattle.cox_rowcheck.proofs.IntervalRows.{interval-at, interval-short, interval-named}
 use Rattle.cox_rows.specs.Beyond.{IsBeyond, coefficient as large_coefficient}
-use Rattle.cox_outside.specs.Line.{line_feed}
+use Rattle.cox_tokens.specs.Line.{line_feed}
 use Rattle.cox_certtext.specs.Certificate.{Certificate, IsCertificate, IsShortWord, IsTextEntry, words_of_entries, polynomials_of_entries}
 use Rattle.cox_certtext.specs.Certificate.{contents, certificate_text}
 use Rattle.cox_cert.specs.Causes.{HasTop, HasInterval, HasSmall, HasRow, IsProof}

@@ -7,14 +7,14 @@ use Rattle.std.proofs.lemmas.Bool.{leb-true, cases_lt}
 use Rattle.std.proofs.Math.Seq.{take-append-add}
 use Rattle.std.specs.Io.KnownBytes.{IsAtEnd}
 use Rattle.cox_outside.specs.declared.limits.TheConstants.{INPUT_LIMIT}
-use Rattle.cox_outside.specs.Line.{line_feed, ended_lines, lines_of, lines_within}
+use Rattle.cox_tokens.specs.Line.{line_feed, ended_lines, lines_of, lines_within}
 use Rattle.cox_outside.specs.Outlet.{IsPrefix}
 use Rattle.cox_replies.specs.Limits.{Limits}
 use Rattle.cox_shell.specs.Reply.{Reply, texts}
 use Rattle.cox_shell.specs.Answer.{script_lines}
 use Rattle.cox_shell.specs.ScriptAnswer.{IsAnswer}
 use Rattle.cox_shell.specs.Top.{AreDue}
-use Rattle.cox_outside.proofs.Lines.{onto_first, into_first, lines_of-byte, ended_lines-byte}
+use Rattle.cox_tokens.proofs.Lines.{onto_first, into_first, lines_of-byte, ended_lines-byte}
 use Rattle.cox_shell.proofs.LineReplies.{IsPrefix-answer}
 
 IsPrefix-trans : {X : Type 0} (first mid whole : List X) → IsPrefix first mid → IsPrefix mid whole → IsPrefix first whole

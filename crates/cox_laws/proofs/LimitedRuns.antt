@@ -5,7 +5,7 @@ use Rattle.std.specs.Io.KnownBytes.{prepend_known}
 use Rattle.std.proofs.lemmas.List.{take_at}
 use Rattle.std.proofs.lemmas.Bool.Decides.{nat_tests}
 use Rattle.cox_outside.specs.declared.limits.TheConstants.{INPUT_LIMIT}
-use Rattle.cox_outside.specs.Line.{ended_lines}
+use Rattle.cox_tokens.specs.Line.{ended_lines}
 use Rattle.cox_outside.specs.Supply.{Supply}
 use Rattle.cox_outside.specs.Outlet.{Outlet}
 use Rattle.cox_shell.specs.declared.status.Status.TheVariants.{InputLimit}

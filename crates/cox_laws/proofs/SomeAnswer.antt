@@ -1,7 +1,7 @@
 -- Each script has an answer.
 use Rattle.std.proofs.Common.{◌≡◌, ℕ, Bool, true, false, List, [], ◌∷◌, Option, Some, None, MatchOption, refl, ◌++◌}
 use Rattle.std.specs.Bool.{MatchBool}
-use Rattle.cox_outside.specs.Line.{content_of}
+use Rattle.cox_tokens.specs.Line.{content_of}
 use Rattle.cox_command.specs.declared.refusal.Refusal.{Refusal}
 use Rattle.cox_replies.specs.Limits.{Limits}
 use Rattle.cox_shell.specs.Reply.{OpenList, State, Reply, opening, texts}

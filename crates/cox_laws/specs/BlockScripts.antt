@@ -1,6 +1,6 @@
 -- The lines of a block as a script.
 use Rattle.std.specs.Prelude.{◌≡◌, ℕ, List, None}
-use Rattle.cox_outside.specs.Line.{content_of}
+use Rattle.cox_tokens.specs.Line.{content_of}
 use Rattle.cox_tokens.specs.Tokens.{tokens_of}
 use Rattle.cox_command.specs.BlockLines.{block_refusal}
 use Rattle.cox_shell.specs.Reply.{Kept}

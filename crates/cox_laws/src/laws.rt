@@ -29,7 +29,7 @@ ghost use Rattle.cox_hecke.specs.Family.{Family};
 ghost use Rattle.cox_hecke.specs.Row.{IsRow, IsKazhdanLusztig, IsMu};
 ghost use Rattle.cox_hecke.specs.Sums.{sum_over};
 ghost use Rattle.cox_outside.specs.declared.limits.TheConstants.{INPUT_LIMIT};
-ghost use Rattle.cox_outside.specs.Line.{line_feed};
+ghost use Rattle.cox_tokens.specs.Line.{line_feed};
 ghost use Rattle.cox_outside.specs.Supply.{Supply};
 ghost use Rattle.cox_outside.specs.Outlet.{Outlet, Writes, IsPrefix};
 ghost use Rattle.cox_tokens.specs.Tokens.{tokens_of};

@@ -1,5 +1,4 @@
 pub mod Known
-pub mod Lines
 pub mod Taking
 pub mod LineKeeping
 pub mod Showing

@@ -5,8 +5,8 @@ use Rattle.std.specs.Io.BufRead.{ends_with_byte}
 use Rattle.std.proofs.lemmas.List.{take_all, take-append-le, take_more_set, length_push, get_or_push}
 use Rattle.std.proofs.lemmas.Bool.{cases_lt}
 use Rattle.std.proofs.lemmas.Bool.Decides.{nat_tests}
-use Rattle.cox_outside.specs.declared.limits.TheConstants.{LINE_LIMIT}
-use Rattle.cox_outside.specs.Line.{carriage_return}
+use Rattle.cox_tokens.specs.declared.limits.TheConstants.{LINE_LIMIT}
+use Rattle.cox_tokens.specs.Line.{carriage_return}
 use Rattle.cox_outside.specs.Scan.{KeepsLine}
 
 -- the last byte of a list to which it was pushed

@@ -3,8 +3,8 @@ use Rattle.std.proofs.Common.{◌≡◌, ℕ, ◌+◌, ◌-◌, ◌≤◌, Optio
 use Rattle.std.specs.Io.BufRead.{ends_with_byte}
 use Rattle.std.proofs.lemmas.List.{take-take, take_all, length-take-le}
 use Rattle.std.specs.List.{position}
-use Rattle.cox_outside.specs.declared.limits.TheConstants.{LINE_LIMIT}
-use Rattle.cox_outside.specs.Line.{carriage_return, content_of, is_foreign}
+use Rattle.cox_tokens.specs.declared.limits.TheConstants.{LINE_LIMIT}
+use Rattle.cox_tokens.specs.Line.{carriage_return, content_of, is_foreign}
 use Rattle.cox_outside.specs.Scan.{KeepsLine}
 
 -- the length of the content

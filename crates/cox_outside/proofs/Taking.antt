@@ -7,12 +7,12 @@ use Rattle.std.proofs.lemmas.List.{append-nil}
 use Rattle.std.proofs.lemmas.List.Elements.{All-push}
 use Rattle.cox_outside.specs.declared.line_reader.Stop.{Stop}
 use Rattle.cox_outside.specs.declared.line_reader.Stop.TheVariants as stop
-use Rattle.cox_outside.specs.Line.{line_feed, lines_within}
-use Rattle.cox_outside.specs.Unbroken.{IsUnbroken}
+use Rattle.cox_tokens.specs.Line.{line_feed, lines_within}
+use Rattle.cox_tokens.specs.Unbroken.{IsUnbroken}
 use Rattle.cox_outside.specs.Ahead.{Ahead, lines_ahead, Takes, TakesPart, MeetsEnd}
 use Rattle.cox_outside.specs.Reader.{TakesNext}
 use Rattle.cox_outside.proofs.Known.{prepend_known-append, prepend_known-none}
-use Rattle.cox_outside.proofs.Lines.{lines_within-line, lines_within-last, lines_within-none}
+use Rattle.cox_tokens.proofs.Lines.{lines_within-line, lines_within-last, lines_within-none}
 
 -- no bytes were taken
 pub Takes-none : (here : Ahead) → Takes [] here here

@@ -3,7 +3,7 @@ use Rattle.std.proofs.Common.{◌≡◌, false, List, ℕ, Option, Some, None, I
 use Rattle.cox_outside.specs.declared.line_reader.Next.{Next}
 use Rattle.cox_outside.specs.declared.line_reader.Next.TheVariants.{Line, Long, Byte, End, Failed, Limit}
 use Rattle.cox_outside.specs.declared.line_reader.Stop.{Stop}
-use Rattle.cox_outside.specs.Line.{content_of}
+use Rattle.cox_tokens.specs.Line.{content_of}
 use Rattle.cox_outside.specs.Supply.{Supply, SourceCause}
 use Rattle.cox_outside.specs.Ahead.{Ahead}
 use Rattle.cox_outside.specs.Reader.{ShowsContent, TakesNext, ReadsNext, tells_fault}

@@ -2,8 +2,8 @@
 use Rattle.std.specs.Prelude.{◌≡◌, ℕ, ◌+◌, ◌<◌, List, [], ◌∷◌, ◌++◌, length, Option}
 use Rattle.std.specs.Option.{option_map}
 use Rattle.std.specs.Io.KnownBytes.{prepend_known, IsAtEnd}
-use Rattle.cox_outside.specs.Line.{line_feed, lines_within}
-use Rattle.cox_outside.specs.Unbroken.{IsUnbroken}
+use Rattle.cox_tokens.specs.Line.{line_feed, lines_within}
+use Rattle.cox_tokens.specs.Unbroken.{IsUnbroken}
 use Rattle.cox_outside.specs.Feed.{Feed, bytes_ahead, HasFewPending}
 
 -- the bytes that lie ahead, where they are told, how many of them may be handed out, and those of them that were read

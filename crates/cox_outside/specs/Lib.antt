@@ -1,8 +1,6 @@
 pub mod FaultCount
 pub mod Supply
 pub mod Outlet
-pub mod Line
-pub mod Unbroken
 pub mod SourceRead
 pub mod SinkWrite
 pub mod Std

@@ -1,14 +1,15 @@
 -- What contracts see of a reader of lines, and what it does.
 use Rattle.std.specs.Prelude.{◌≡◌, ℕ, ◌+◌, ◌<◌, ◌≤◌, Bool, true, false, List, [], length, position, Option, Some, None, MatchOption}
 use Rattle.std.specs.Option.{option_map}
-use Rattle.cox_outside.specs.declared.limits.TheConstants.{LINE_LIMIT, INPUT_LIMIT}
+use Rattle.cox_tokens.specs.declared.limits.TheConstants.{LINE_LIMIT}
+use Rattle.cox_outside.specs.declared.limits.TheConstants.{INPUT_LIMIT}
 use Rattle.cox_outside.specs.declared.line_reader.Next.{Next}
 use Rattle.cox_outside.specs.declared.line_reader.Next.TheVariants.{Line, Long, Byte, End, Failed, Limit}
 use Rattle.cox_outside.specs.declared.line_reader.Stop.{Stop}
 use Rattle.cox_outside.specs.declared.line_reader.Stop.TheVariants as stop
 use Rattle.cox_outside.specs.declared.line_scan.Ended.{Ended}
 use Rattle.cox_outside.specs.declared.line_scan.Ended.TheVariants as ended
-use Rattle.cox_outside.specs.Line.{is_foreign, content_of}
+use Rattle.cox_tokens.specs.Line.{is_foreign, content_of}
 use Rattle.cox_outside.specs.Feed.{Feed}
 use Rattle.cox_outside.specs.Ahead.{Ahead, ahead, TakesLine, TakesLast, MeetsEnd, MeetsFault, MeetsLimit}
 

@@ -1,10 +1,10 @@
 -- What a scan for the end of a line does.
 use Rattle.std.specs.Prelude.{◌≡◌, ℕ, ◌+◌, Bool, true, false, List, length, take}
 use Rattle.std.specs.Io.BufRead.{ends_with_byte}
-use Rattle.cox_outside.specs.declared.limits.TheConstants.{LINE_LIMIT}
+use Rattle.cox_tokens.specs.declared.limits.TheConstants.{LINE_LIMIT}
 use Rattle.cox_outside.specs.declared.line_scan.Ended.{Ended}
 use Rattle.cox_outside.specs.declared.line_scan.Ended.TheVariants.{Line, Last, End, Failed, Limit}
-use Rattle.cox_outside.specs.Line.{carriage_return}
+use Rattle.cox_tokens.specs.Line.{carriage_return}
 use Rattle.cox_outside.specs.Ahead.{Ahead, TakesLine, TakesLast, MeetsEnd, MeetsFault, MeetsLimit}
 
 -- what is kept of a line: its length, its first bytes, as many as a line may have and one for a CR, and whether it ends by CR

@@ -5,7 +5,7 @@
 //! count of faults. The forms over std's `Read` and `Write` tell nothing but the count; those in memory tell all. The count rises by one
 //! exactly where a call tells of a fault. A [`LineReader`] hands out the lines of a source, and its contract says by the bytes that lie
 //! ahead which line comes, or why none does. Each call returns, whatever a source gives, since a reader hands out no more than
-//! `INPUT_LIMIT` bytes. The crate stands on std alone. Its tests stand in the crate `text_tests`.
+//! `INPUT_LIMIT` bytes. What the lines of bytes are is said in `cox_tokens`. The tests stand in the crate `text_tests`.
 //!
 //! - `source`, `sink`: the two traits, and what a read or a write answers
 //! - `writing`: all bytes of a slice into a sink
@@ -14,8 +14,7 @@
 //! - `calls`: which calls of a form in memory have to fail
 //! - `byte_feed`, `line_scan`, `line_show`, `line_reader`: single bytes, the ends of lines, what is
 //!   told of a line, and lines one by one
-//! - `limits`: how long lines and inputs may be
-//! - `laws`: the laws that determine the lines of a text
+//! - `limits`: how long inputs may be
 //! - `arguments`: the arguments of a program, as texts
 //! - `gate`: gates that workers pass, which tests use to hold them
 #![tactic(auto)]
@@ -24,7 +23,6 @@ mod arguments;
 mod byte_feed;
 mod calls;
 mod gate;
-pub mod laws;
 mod limits;
 mod line_reader;
 mod line_scan;
@@ -38,8 +36,9 @@ mod std_source;
 mod writing;
 
 pub use arguments::{arguments_of, texts};
+pub use cox_tokens::LINE_LIMIT;
 pub use gate::{Gate, Open, Point};
-pub use limits::{CHUNK_SIZE, INPUT_LIMIT, LINE_LIMIT};
+pub use limits::{CHUNK_SIZE, INPUT_LIMIT};
 pub use line_reader::{LineReader, Next, Stop};
 pub use memory_sink::MemorySink;
 pub use memory_source::MemorySource;

@@ -1,7 +1,4 @@
-//! How long lines and inputs may be, and how much one read asks for.
-
-/// The most bytes that a line may have, without its end.
-pub const LINE_LIMIT: usize = 4096;
+//! How long inputs may be, and how much one read asks for.
 
 /// The most bytes of an input that are handed out; one more is read, to tell that there are more.
 pub const INPUT_LIMIT: usize = 16_777_216;

@@ -1,10 +1,11 @@
 //! The lines of a source, one by one.
 
 use crate::byte_feed::ByteFeed;
-use crate::limits::{INPUT_LIMIT, LINE_LIMIT};
+use crate::limits::INPUT_LIMIT;
 use crate::line_scan::{Ended, scan_line};
 use crate::line_show::{show, stop_at, stopped};
 use crate::source::Source;
+use cox_tokens::LINE_LIMIT;
 use std::alloc::{AllocError, Global};
 use std::marker::Model;
 
@@ -50,7 +51,8 @@ pub struct LineReader {
 
 impl Model for LineReader {
     ghost use Rattle.std.specs.Prelude.{◌≡◌, ◌+◌, ◌≤◌, vec_len};
-    ghost use Rattle.cox_outside.specs.declared.limits.TheConstants.{LINE_LIMIT, INPUT_LIMIT};
+    ghost use Rattle.cox_tokens.specs.declared.limits.TheConstants.{LINE_LIMIT};
+    ghost use Rattle.cox_outside.specs.declared.limits.TheConstants.{INPUT_LIMIT};
     ghost use Rattle.cox_outside.specs.Reader.{Reader};
 
     ghost Value = { Reader };

@@ -1,7 +1,8 @@
 //! The ends of lines.
 
 ghost use Rattle.std.specs.Prelude.{◌≡◌, ◌+◌, ◌<◌, ◌≤◌, length, slice_set};
-ghost use Rattle.cox_outside.specs.declared.limits.TheConstants.{LINE_LIMIT, INPUT_LIMIT};
+ghost use Rattle.cox_tokens.specs.declared.limits.TheConstants.{LINE_LIMIT};
+ghost use Rattle.cox_outside.specs.declared.limits.TheConstants.{INPUT_LIMIT};
 ghost use Rattle.cox_outside.specs.Supply.{SourceCause};
 ghost use Rattle.cox_outside.specs.Ahead.{ahead};
 ghost use Rattle.cox_outside.specs.Scan.{Scans, ended_failed};

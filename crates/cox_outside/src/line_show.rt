@@ -1,14 +1,14 @@
 //! What is told of a line.
 
 ghost use Rattle.std.specs.Prelude.{◌≡◌, ℕ, ◌+◌, ◌-◌, ◌<◌, if◌then◌else◌, List, length, Some, IfSome, position};
-ghost use Rattle.cox_outside.specs.declared.limits.TheConstants.{LINE_LIMIT};
-ghost use Rattle.cox_outside.specs.Line.{content_of, is_foreign};
+ghost use Rattle.cox_tokens.specs.declared.limits.TheConstants.{LINE_LIMIT};
+ghost use Rattle.cox_tokens.specs.Line.{content_of, is_foreign};
 ghost use Rattle.cox_outside.specs.Scan.{KeepsLine};
 ghost use Rattle.cox_outside.specs.Reader.{ShowsContent, stop_of, halt_of};
 
-use crate::limits::LINE_LIMIT;
 use crate::line_reader::{Next, Stop};
 use crate::line_scan::Ended;
+use cox_tokens::LINE_LIMIT;
 
 /// What a reader that has stopped answers.
 pub fn stopped<'a>(stop: Stop) -> Next<'a>

@@ -12,14 +12,14 @@ use Rattle.std.proofs.lemmas.Option.{IfSome_then}
 use Rattle.cox_outside.specs.declared.limits.TheConstants.{CHUNK_SIZE}
 use Rattle.cox_outside.specs.declared.line_reader.Stop.{Stop}
 use Rattle.cox_outside.specs.declared.line_reader.Stop.TheVariants as stop
-use Rattle.cox_outside.specs.Line.{line_feed, lines_of}
-use Rattle.cox_outside.specs.Unbroken.{IsUnbroken}
+use Rattle.cox_tokens.specs.Line.{line_feed, lines_of}
+use Rattle.cox_tokens.specs.Unbroken.{IsUnbroken}
 use Rattle.cox_outside.specs.Reader.{TakesNext}
 use Rattle.cox_outside.specs.Ahead.{Ahead, Takes, lines_ahead, MeetsEnd, MeetsFault, MeetsLimit}
 use Rattle.cox_outside.specs.Outlet.{Writes}
 use Rattle.cox_outside.proofs.Known.{Writes-append}
 use Rattle.cox_outside.proofs.Taking.{Takes-none, Takes-append}
-use Rattle.cox_outside.proofs.Lines.{ended_lines-none}
+use Rattle.cox_tokens.proofs.Lines.{ended_lines-none}
 use Rattle.cox_shell.specs.declared.status.Status.TheVariants.{Done, Refused}
 use Rattle.cox_shell.specs.declared.status.Stopped.{Stopped}
 use Rattle.cox_shell.specs.declared.status.Stopped.TheVariants as why

@@ -3,7 +3,7 @@ use Rattle.std.proofs.Common.{◌≡◌, ℕ, true, false, List, [], ◌∷◌, 
 use Rattle.std.specs.Option.{MatchOption}
 use Rattle.std.specs.Bool.{MatchBool}
 use Rattle.std.proofs.lemmas.Grind.{flat_map-append}
-use Rattle.cox_outside.specs.Line.{content_of}
+use Rattle.cox_tokens.specs.Line.{content_of}
 use Rattle.cox_outside.specs.Outlet.{IsPrefix}
 use Rattle.cox_command.specs.declared.refusal.Refusal.{Refusal}
 use Rattle.cox_replies.specs.Limits.{Limits}

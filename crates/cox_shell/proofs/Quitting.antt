@@ -1,7 +1,7 @@
 -- No list is open behind a line that ends the run.
 use Rattle.std.proofs.Common.{◌≡◌, ℕ, true, false, List, Option, Some, None, IsSomeAnd, MatchOption, refl, sym, ap, ◌∙◌, true≢false}
 use Rattle.cox_tokens.specs.Tokens.{tokens_of}
-use Rattle.cox_outside.specs.Line.{content_of}
+use Rattle.cox_tokens.specs.Line.{content_of}
 use Rattle.cox_command.specs.declared.refusal.Refusal.{Refusal}
 use Rattle.cox_command.specs.declared.command.Command.{Command}
 use Rattle.cox_command.specs.declared.command.Command.TheVariants.{Nothing, Quit, Group, Jobs, Ask}

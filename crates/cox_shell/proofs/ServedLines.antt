@@ -6,8 +6,8 @@ use Rattle.std.specs.Option.{MatchOption, option_map, is_some}
 use Rattle.std.specs.declared.alloc.AllocError.{AllocError}
 use Rattle.std.proofs.lemmas.Bool.Decides.{nat_tests}
 use Rattle.cox_outside.specs.declared.line_reader.Stop.{Stop}
-use Rattle.cox_outside.specs.declared.limits.TheConstants.{LINE_LIMIT}
-use Rattle.cox_outside.specs.Line.{is_foreign, content_of}
+use Rattle.cox_tokens.specs.declared.limits.TheConstants.{LINE_LIMIT}
+use Rattle.cox_tokens.specs.Line.{is_foreign, content_of}
 use Rattle.cox_outside.specs.Ahead.{Ahead}
 use Rattle.cox_outside.specs.Reader.{TakesNext}
 use Rattle.cox_command.specs.declared.refusal.Refusal.{Refusal}

@@ -8,13 +8,13 @@ use Rattle.std.proofs.lemmas.Grind.{flat_map-append}
 use Rattle.std.proofs.lemmas.Bool.Decides.{nat_tests}
 use Rattle.cox_outside.specs.declared.line_reader.Stop.{Stop}
 use Rattle.cox_outside.specs.declared.line_reader.Stop.TheVariants as stop
-use Rattle.cox_outside.specs.Line.{line_feed, ended_lines, lines_of}
+use Rattle.cox_tokens.specs.Line.{line_feed, ended_lines, lines_of}
 use Rattle.cox_outside.specs.Feed.{HasFewPending}
 use Rattle.cox_outside.specs.Ahead.{Ahead, Takes, MeetsLimit, lines_ahead}
 use Rattle.cox_outside.specs.Reader.{TakesNext}
 use Rattle.cox_outside.proofs.Known.{prepend_known-append}
 use Rattle.cox_outside.proofs.Taking.{Takes-none, Takes-append, lines_ahead-line}
-use Rattle.cox_outside.proofs.Lines.{ended_lines-line, lines_of-line, lines_of-last}
+use Rattle.cox_tokens.proofs.Lines.{ended_lines-line, lines_of-line, lines_of-last}
 use Rattle.cox_shell.specs.Answer.{bytes_of}
 use Rattle.cox_shell.specs.Outcome.{HasRead}
 

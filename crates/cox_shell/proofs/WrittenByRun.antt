@@ -12,7 +12,7 @@ use Rattle.std.proofs.Math.Bool.{or-false}
 use Rattle.std.specs.Io.KnownBytes.{prepend_known, IsAtEnd}
 use Rattle.std.proofs.lemmas.Option.{IfSome_then}
 use Rattle.cox_outside.specs.declared.limits.TheConstants.{INPUT_LIMIT}
-use Rattle.cox_outside.specs.Line.{line_feed, ended_lines, lines_within}
+use Rattle.cox_tokens.specs.Line.{line_feed, ended_lines, lines_within}
 use Rattle.cox_outside.specs.Supply.{Supply}
 use Rattle.cox_outside.specs.Reader.{Reader, fresh_reader}
 use Rattle.cox_outside.specs.Outlet.{Outlet, Writes, IsPrefix}

@@ -2,7 +2,7 @@
 use Rattle.std.specs.Prelude.{◌≡◌, ℕ, Bool, List, [], ◌∷◌, ◌++◌, MatchBool, MatchOption, is_some}
 use Rattle.std.specs.List.{flat_map, list_any}
 use Rattle.cox_outside.specs.declared.limits.TheConstants.{INPUT_LIMIT}
-use Rattle.cox_outside.specs.Line.{line_feed, lines_within}
+use Rattle.cox_tokens.specs.Line.{line_feed, lines_within}
 use Rattle.cox_replies.specs.Limits.{Limits}
 use Rattle.cox_shell.specs.Reply.{State, Reply, opening}
 use Rattle.cox_shell.specs.LineReply.{IsReply}

@@ -2,7 +2,7 @@
 use Rattle.std.specs.Prelude.{◌≡◌, ℕ, ◌+◌, ◌<◌, ◌≤◌, ◌⊎◌, Bool, true, false, List, [], ◌∷◌, ◌++◌, length, take, IfSome, MatchBool, None}
 use Rattle.std.specs.Io.KnownBytes.{prepend_known, IsAtEnd}
 use Rattle.cox_outside.specs.declared.limits.TheConstants.{CHUNK_SIZE}
-use Rattle.cox_outside.specs.Line.{ended_lines, lines_within}
+use Rattle.cox_tokens.specs.Line.{ended_lines, lines_within}
 use Rattle.cox_outside.specs.Ahead.{Ahead, lines_ahead}
 use Rattle.cox_outside.specs.Outlet.{Writes, IsPrefix}
 use Rattle.cox_shell.specs.declared.status.Status.{Status}

@@ -4,7 +4,7 @@ use Rattle.std.specs.Prelude.{unwrap_or, MatchBool, IsSome}
 use Rattle.std.specs.Borrow.{Bor}
 use Rattle.std.specs.Io.KnownBytes.{prepend_known, IsAtEnd}
 use Rattle.cox_outside.specs.declared.limits.TheConstants.{INPUT_LIMIT, CHUNK_SIZE}
-use Rattle.cox_outside.specs.Line.{line_feed, ended_lines}
+use Rattle.cox_tokens.specs.Line.{line_feed, ended_lines}
 use Rattle.cox_outside.specs.Outlet.{Outlet, Writes, IsPrefix}
 use Rattle.cox_options.specs.Arguments.{is_refused, given_number}
 use Rattle.cox_replies.specs.Limits.{Limits}

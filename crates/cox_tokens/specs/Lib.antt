@@ -1,2 +1,4 @@
+pub mod Line
+pub mod Unbroken
 pub mod Tokens
 pub mod Number

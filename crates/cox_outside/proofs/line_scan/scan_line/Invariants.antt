@@ -1,6 +1,7 @@
 -- Up to here the beginning of one line was taken and kept, and no fault was met.
 use Rattle.std.proofs.Common.{◌≡◌, ℕ, ◌+◌, ◌≤◌, List, length}
-use Rattle.cox_outside.specs.declared.limits.TheConstants.{LINE_LIMIT, INPUT_LIMIT}
+use Rattle.cox_tokens.specs.declared.limits.TheConstants.{LINE_LIMIT}
+use Rattle.cox_outside.specs.declared.limits.TheConstants.{INPUT_LIMIT}
 use Rattle.cox_outside.specs.Ahead.{ahead, TakesPart}
 use Rattle.cox_outside.specs.Scan.{KeepsLine}
 use Rattle.cox_outside.proofs.line_scan.scan_line.Given as goal

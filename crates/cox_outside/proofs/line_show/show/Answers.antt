@@ -1,8 +1,8 @@
 -- What is shown of the kept bytes is shown of the line.
 use Rattle.std.proofs.Common.{◌≡◌, ℕ, ◌+◌, ◌≤◌, length, take, ap, subst}
 use Rattle.std.specs.Option.{option_map}
-use Rattle.cox_outside.specs.declared.limits.TheConstants.{LINE_LIMIT}
-use Rattle.cox_outside.specs.Line.{content_of}
+use Rattle.cox_tokens.specs.declared.limits.TheConstants.{LINE_LIMIT}
+use Rattle.cox_tokens.specs.Line.{content_of}
 use Rattle.cox_outside.proofs.Showing.{shown_prefix, shown_length, found_in}
 use Rattle.cox_outside.proofs.line_show.show.Goals as goal
 

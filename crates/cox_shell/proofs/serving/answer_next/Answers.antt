@@ -1,6 +1,6 @@
 -- A line that is too long, or has a foreign byte, is refused.
 use Rattle.cox_command.specs.declared.refusal.Refusal.TheVariants.{LongLine, ForeignByte}
-use Rattle.cox_outside.specs.Line.{content_of}
+use Rattle.cox_tokens.specs.Line.{content_of}
 use Rattle.cox_shell.proofs.ServedLines.{content_refusal-long, content_refusal-foreign, answers_refused}
 use Rattle.cox_shell.proofs.serving.answer_next.Goals as goal
 

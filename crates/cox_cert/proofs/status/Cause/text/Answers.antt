@@ -1,7 +1,7 @@
 -- The text of a verdict has the number of its cause.
 use Rattle.std.proofs.Common.{◌≡◌, ℕ, ◌+◌, ◌<◌, [], ◌∷◌, ◌++◌, codes, decimal, sym, ap, lit<, arith, rules}
 use Rattle.std.proofs.lemmas.Fmt.{decimal_digit}
-use Rattle.cox_outside.specs.Line.{line_feed}
+use Rattle.cox_tokens.specs.Line.{line_feed}
 use Rattle.cox_cert.proofs.status.Cause.text.Goals as goal
 
 text : (n : ℕ) → n < 10 → 110 ∷ 111 ∷ 32 ∷ (48 + n) ∷ 10 ∷ [] ≡ codes "no " ++ decimal n ++ line_feed ∷ []

@@ -8,8 +8,8 @@ use Rattle.std.proofs.Math.Seq.{take-append-add}
 use Rattle.std.proofs.lemmas.List.Splits.{length-slice_split}
 use Rattle.std.specs.List.{slice_split, onto_first as std_onto_first}
 use Rattle.std.specs.Io.BufRead.{strip_last}
-use Rattle.cox_outside.specs.Line.{line_feed, lines_of, ended_lines, lines_within}
-use Rattle.cox_outside.specs.Unbroken.{IsUnbroken}
+use Rattle.cox_tokens.specs.Line.{line_feed, lines_of, ended_lines, lines_within}
+use Rattle.cox_tokens.specs.Unbroken.{IsUnbroken}
 
 -- the first byte of an unbroken text is not LF
 not_lf : (byte : ℕ) (bytes : List ℕ) → IsUnbroken (byte ∷ bytes) → (byte == line_feed) ≡ false

@@ -2,8 +2,8 @@
 //! line that ends by LF, or it is one last line.
 
 ghost use Rattle.std.specs.Prelude.{◌≡◌, ◌<◌, [], ◌∷◌, ◌++◌, length};
-ghost use Rattle.cox_outside.specs.Line.{line_feed, lines_of, ended_lines};
-ghost use Rattle.cox_outside.specs.Unbroken.{IsUnbroken};
+ghost use Rattle.cox_tokens.specs.Line.{line_feed, lines_of, ended_lines};
+ghost use Rattle.cox_tokens.specs.Unbroken.{IsUnbroken};
 
 /// No bytes have no line.
 pub fn no_lines()

@@ -1,6 +1,6 @@
 -- A last line is the only one.
-use Rattle.cox_outside.proofs.Lines.{lines_of-last, ended_lines-none}
-use Rattle.cox_outside.proofs.laws.last_line.Goals as goal
+use Rattle.cox_tokens.proofs.Lines.{lines_of-last, ended_lines-none}
+use Rattle.cox_tokens.proofs.laws.last_line.Goals as goal
 
 pub returns-clause-all : goal.returns-clause-all
 returns-clause-all c = lines_of-last c.args.line.now c.requires.some c.requires.unbroken

@@ -1,6 +1,6 @@
 -- A line that ends by LF is the first.
-use Rattle.cox_outside.proofs.Lines.{lines_of-line, ended_lines-line}
-use Rattle.cox_outside.proofs.laws.line_by_lf.Goals as goal
+use Rattle.cox_tokens.proofs.Lines.{lines_of-line, ended_lines-line}
+use Rattle.cox_tokens.proofs.laws.line_by_lf.Goals as goal
 
 pub returns-clause-all : goal.returns-clause-all
 returns-clause-all c = lines_of-line c.args.line.now c.args.rest.now c.requires
