@@ -1,6 +1,6 @@
 -- The letter of the step shortens each extremal member, so there is a shift; and what the step leads to is below sw exactly where the
 -- member is below w.
-use Rattle.std.proofs.Common.{◌≡◌, length, ◌∙◌, arith}
+use Rattle.std.proofs.Common.{◌≡◌, length, arith}
 use Rattle.cox_base.specs.IntegerMatrix.{integer_matrix}
 use Rattle.cox_base.specs.Bruhat.{IsBelow}
 use Rattle.cox_context.specs.Numbers.{word_at}
