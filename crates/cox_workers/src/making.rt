@@ -5,6 +5,7 @@ ghost use Rattle.cox_context.specs.Numbers.{word_at};
 ghost use Rattle.cox_row_builder.specs.Faults.{IsFault};
 ghost use Rattle.cox_row_symmetry.specs.DescentOf.{IsDescentAt};
 ghost use Rattle.cox_klstep.specs.NeedsOf.{AreNeeds, HasNeeds};
+ghost use Rattle.cox_klstep.specs.Plans.{IsPlan};
 ghost use Rattle.cox_klstep.specs.TablesOf.{AreTables};
 ghost use Rattle.cox_claims.specs.Knowledge.{TriesClaim, Publishes};
 ghost use Rattle.cox_claims.specs.Seats.{view_of, splits_of, IsSameSeat, Holds, HoldsBeyond, HasSeen, HasSeenVoid, HasSeenClaimed, Reads};
@@ -18,7 +19,7 @@ use crate::missing::Missing;
 use crate::read_rows::ReadRows;
 use crate::worker_context::WorkerContext;
 use crate::worker_scratch::WorkerScratch;
-use cox_klstep::{Descent, RowStart, StepFault, Steps, Tables, begin_row, needs};
+use cox_klstep::{Descent, RowPlan, RowStart, StepFault, Steps, Tables, begin_row, needs};
 use cox_outside::{Gate, Point};
 use cox_row::{LowerRows, Row};
 use cox_row_store::{Claimed, RowState, Seat};
@@ -151,11 +152,28 @@ impl<'a> WorkerContext<'a> {
     {
         match begin_row(self.alloc, self.context, i, rows, tables)? {
             RowStart::Done(row) => Ok(row),
-            RowStart::Planned(plan) => {
-                let found = self.find_together(rt, self.threads, &plan, tables);
-                plan.finish(self.alloc, self.context, tables, found, steps)
-            }
+            RowStart::Planned(plan) => self.finished(rt, plan, tables, steps),
         }
+    }
+
+    /// The row that is planned, of which threads find polynomials together.
+    fn finished<R: Threads + Sync>(
+        &self,
+        rt: &R,
+        plan: RowPlan<'_>,
+        tables: &mut Tables,
+        steps: &mut Steps,
+    ) -> Result<Row, StepFault>
+        requires plan { IsPlan self.now.context.now tables.old plan }
+        requires tables { AreTables self.now.context.now tables.old }
+        ensures row { IfOk result (IsRowAt self.now.context.now plan.entry.step.member) }
+        ensures within { IfOk result (IsRowWithin plan.entry.limit) }
+        ensures fault { let e = self.now.context.now in
+            IfErr result (IsFault (integer_matrix e.matrix) e.members plan.entry.limit (λ w. w ≡ plan.entry.step.member)) }
+        ensures tables { AreTables self.now.context.now tables.new }
+    {
+        let found = self.find_together(rt, self.threads, &plan, tables);
+        plan.finish(self.alloc, self.context, tables, found, steps)
     }
 
     /// Reads the rows that the row of the member with the number i is made from. Tells how many of them are those of corrections.

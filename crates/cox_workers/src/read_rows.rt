@@ -78,7 +78,7 @@ fn no_guards<'a>(alloc: Global, members: u32) -> Result<Vec<Option<RowGuard<'a>>
 {
     let mut guards = Vec::with_capacity(alloc, members as usize)?;
     for _ in 0..members {
-        guards.push(None)?;
+        guards.push_reserved(None);
     }
     Ok(guards)
 }

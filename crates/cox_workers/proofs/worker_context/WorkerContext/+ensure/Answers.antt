@@ -9,9 +9,9 @@ use Rattle.cox_row.specs.Rising.{number_at}
 use Rattle.cox_claims.specs.Knowledge.{looked}
 use Rattle.cox_claims.specs.Seats.{view_of, HasSeen}
 use Rattle.cox_row_store.specs.Stores.{limit_of}
-use Rattle.cox_workers.proofs.SeatSteps.{needs-map, unmade_by-needed, unmade_err, looked_void, published_kept, voided_kept, unmade_missing}
+use Rattle.cox_workers.proofs.SeatSteps.{needs-map, unmade_by-needed, unmade_err, looked_kept, looked_void, published_kept, voided_kept, unmade_missing}
 use Rattle.cox_workers.proofs.WaitingOrder.{beyond-still, from-beyond}
-use Rattle.cox_workers.proofs.Working.{ready_still, work-trans, work-needed, work-tables, work-list}
+use Rattle.cox_workers.proofs.Working.{ready_still, work-trans, work-same, work-needed, work-tables, work-list}
 use Rattle.cox_workers.proofs.NeedsByNumber.{lower-needed_at, correction-needed_at, correction-before_at}
 use Rattle.cox_workers.specs.RowsRead.{IsRead}
 use Rattle.cox_workers.specs.SeatChanges.{IsRowMissing}
@@ -19,6 +19,16 @@ use Rattle.cox_klstep.specs.NeedsOf.{AreNeeds}
 use Rattle.cox_base.specs.IntegerMatrix.{integer_matrix}
 use Rattle.cox_context.specs.Numbers.{word_at}
 use Rattle.cox_workers.proofs.worker_context.WorkerContext.+ensure.Goals as goal
+
+pub ensure-returns-in-Lost-Published-clause-work : goal.ensure-returns-in-Lost-Published-clause-work
+ensure-returns-in-Lost-Published-clause-work g t c = work-same c.requires.ready c.claim.ensures.own
+    (looked_kept c.args.self.now.context.now c.args.i c.args.i c.args.seat.now c.claim.new.seat _ c.claim.ensures.seat
+    c.claim.ensures.splits c.in-Lost-Published.ensures.step.after c.in-Lost-Published.ensures.step.kept)
+
+pub ensure-returns-in-Lost-Void-clause-work : goal.ensure-returns-in-Lost-Void-clause-work
+ensure-returns-in-Lost-Void-clause-work g t c = work-same c.requires.ready c.claim.ensures.own
+    (looked_kept c.args.self.now.context.now c.args.i c.args.i c.args.seat.now c.claim.new.seat _ c.claim.ensures.seat
+    c.claim.ensures.splits c.in-Lost-Void.ensures.step.after c.in-Lost-Void.ensures.step.kept)
 
 pub ensure-returns-in-Lost-Void-clause-missing : goal.ensure-returns-in-Lost-Void-clause-missing
 ensure-returns-in-Lost-Void-clause-missing g t c =

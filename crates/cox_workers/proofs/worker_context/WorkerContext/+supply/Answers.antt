@@ -4,6 +4,7 @@ use Rattle.cox_row_symmetry.proofs.LowerMembers.{lower-before}
 use Rattle.cox_claims.specs.Seats.{HasSeenClaimed, HasSeenEnd}
 use Rattle.cox_workers.specs.SeatChanges.{IsNeededAt}
 use Rattle.cox_workers.proofs.Growing.{claimed-looked, claimed-still, fresh-claimed, fresh-before}
+use Rattle.cox_workers.proofs.SeatSteps.{kept-refl}
 use Rattle.cox_workers.proofs.Working.{work-trans, work-same, work-again, work-lower, work-needed, work-list, option_or-both}
 use Rattle.cox_workers.proofs.NeedsByNumber.{correction-needed_at, correction-before_at}
 use Rattle.cox_workers.proofs.worker_context.WorkerContext.+supply.Goals as goal
@@ -65,6 +66,10 @@ pub provide-returns-in_default-look-clause-work : goal.provide-returns-in_defaul
 provide-returns-in_default-look-clause-work g t c = work-again
     (work-trans (work-same c.requires.ready c.look.ensures.own (c.look.ensures.kept c.args.u)) c.supply-claimed.ensures.work)
     c.look-2.ensures.own (c.look-2.ensures.kept c.args.u)
+
+pub supply-returns-then-i-eq0-clause-work : goal.supply-returns-then-i-eq0-clause-work
+supply-returns-then-i-eq0-clause-work g t c =
+    work-same c.requires.ready c.requires.ready.own (kept-refl c.args.self.now.context.now c.args.i c.args.seat.now)
 
 pub supply-provide-first-requires : goal.supply-provide-first-requires
 supply-provide-first-requires g t c =

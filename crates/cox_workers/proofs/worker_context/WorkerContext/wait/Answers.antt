@@ -7,6 +7,9 @@ pub returns-in-Published-clause-kept : goal.returns-in-Published-clause-kept
 returns-in-Published-clause-kept g c = kept-trans c.args.self.now.context.now c.args.i c.args.seat.now c.loop.seat c.wait_once.new.seat
     c.loop.invariant.kept c.wait_once.ensures.kept
 
+pub returns-in-Published-clause-here : goal.returns-in-Published-clause-here
+returns-in-Published-clause-here g c = (c.in-Published.ensures.published refl, c.wait_once.ensures.none ∙ c.loop.invariant.none)
+
 pub returns-in-Void-clause-kept : goal.returns-in-Void-clause-kept
 returns-in-Void-clause-kept g c = kept-trans c.args.self.now.context.now c.args.i c.args.seat.now c.loop.seat c.wait_once.new.seat
     c.loop.invariant.kept c.wait_once.ensures.kept
