@@ -10,7 +10,8 @@ say nothing of one function, and of a crate that was checked again what was kept
 too, up to ten minutes. A check beside other work takes longer than alone.
 
 There is a line for each function that took at least N seconds, ten if it is not given: the seconds, the crate, the file and line of the
-function, and its name. Closures count with the function that they stand in. The last line has the sums of all. It needs Python 3 alone, and is no part of
+function, and its name. Closures count with the function that they stand in, and functions that call one another with the one that their
+proof is named after. The last line has the sums of all. It needs Python 3 alone, and is no part of
 the gate; the exit status is 1 where there is no such crate.
 """
 import argparse
@@ -39,6 +40,8 @@ def written(crate):
 def function_of(module, functions):
     """The function that a module is about, of these: None where it is about none."""
     parts = re.sub(r"^(specs\.contracts|proofs)\.", "", module).split(".")
+    # The proof of a cycle of calls is named after one of its functions, with a plus before it.
+    parts = [re.sub(r"^\+(\w+).*", r"\1", it) for it in parts]
     if "fn" in parts:
         place = parts.index("fn")
         parts = parts[:place] + parts[place + 1 : place + 2]
