@@ -4,7 +4,7 @@ import re
 import subprocess
 
 # The version of the whole, the programs too; docs/RELEASES.md lists them all.
-NEWEST = "1.2"
+NEWEST = "1.3"
 
 PACKAGE = os.path.dirname(os.path.abspath(__file__))
 CHECKOUT = os.path.dirname(os.path.dirname(PACKAGE))

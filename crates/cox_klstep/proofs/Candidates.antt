@@ -21,7 +21,8 @@ use Rattle.cox_row_builder.specs.Underway.{AreBare}
 pub record AreLeft (A : IntegerMatrix) (members : List (List ℕ)) (i : ℕ) (numbers : List ℕ) (place done : ℕ) : Type 0 where
   pub bound : done ≤ i + 1
   pub ahead : (k : ℕ) → place ≤ k → k < length numbers → done ≤ number_at numbers k
-  pub left : (x : ℕ) → done ≤ x → x ≤ i → IsExtremal A (word_at members i) (word_at members x) → IsBelow A (word_at members x) (word_at members i)
+  pub left : (x : ℕ) → done ≤ x → x ≤ i → IsExtremal A (word_at members i) (word_at members x)
+      → IsBelow A (word_at members x) (word_at members i)
       → (k : ℕ) × (place ≤ k) × (k < length numbers) × (number_at numbers k ≡ x)
 
 module _ (e : Elements) (g : IsAdmissible (integer_matrix e.matrix)) (closed : IsClosed (integer_matrix e.matrix) e.members) (i : ℕ)

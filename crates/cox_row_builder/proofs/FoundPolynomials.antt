@@ -23,7 +23,8 @@ begun-pass A members w limit q p numbers places pool l bare h = record {
   before = λ k m. omega (arith, h.before k m, l);
   extremal = h.extremal;
   below = h.below;
-  whole = λ y m e b small. ⊎_elim (λ (less : y < q). h.whole y less e b small) (λ (more : q ≤ y). absurd (bare y more m e b)) (cases_lt y q);
+  whole = λ y m e b small. ⊎_elim (λ (less : y < q). h.whole y less e b small) (λ (more : q ≤ y). absurd (bare y more m e b))
+      (cases_lt y q);
   polynomials = h.polynomials;
   small = h.small;
 }

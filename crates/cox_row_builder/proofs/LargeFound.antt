@@ -31,7 +31,8 @@ large-start A members w limit = record {
 module _ (A : IntegerMatrix) (members : List (List ℕ)) (w : List ℕ) (limit : ℤ) (numbers : List ℕ) (coefficients : List LargeCoefficient)
   where
     -- no member from one to another is extremal and below w
-    pub large-pass : (q p : ℕ) → q ≤ p → ((x : ℕ) → q ≤ x → x < p → IsExtremal A w (word_at members x) → IsBelow A (word_at members x) w → ⊥)
+    pub large-pass : (q p : ℕ) → q ≤ p
+        → ((x : ℕ) → q ≤ x → x < p → IsExtremal A w (word_at members x) → IsBelow A (word_at members x) w → ⊥)
         → AreLarge A members w limit q numbers coefficients → AreLarge A members w limit p numbers coefficients
     large-pass q p l bare h = record {
       size = h.size;

@@ -53,8 +53,8 @@ loop-x-preserved c =
     in elim c.if-has.branch [
       | then-has+in_ok-push-in-Some+in_ok-push-in-Some-2 w ↦
           rw (w.members-is, w.shorter-is, w.in_ok-push-in-Some.ensures.items, w.in_ok-push-in-Some-2.ensures.items) record {
-            picked = picked-push (λ x. IsBelow (integer_matrix e.matrix) (word_at e.members x) (word_at e.members step.member)) numbers place
-                _ was.picked c.requires.candidates.rising c.loop-x-test.true (lowered.0 (has.0 w.if-has.true));
+            picked = picked-push (λ x. IsBelow (integer_matrix e.matrix) (word_at e.members x) (word_at e.members step.member))
+                numbers place _ was.picked c.requires.candidates.rising c.loop-x-test.true (lowered.0 (has.0 w.if-has.true));
             lowered = lowered-push e step.side step.letter _ _ (number_at numbers place) c.in-Some.y was.lowered c.in-Some.ensures;
           }
       | else-has w ↦ rw (w.members-is, w.shorter-is) record {

@@ -31,4 +31,5 @@ invariant_of-result-clause-unheld c =
     λ i _. subst (λ z. get_or z i None ≡ None) (sym c.in_ok-blank.ensures.holders) (all_replicate _ i None)
 
 pub returns-clause-opening : goal.returns-clause-opening
-returns-clause-opening c = listed_fill-opening _ _ _ _ _ c.in_ok-blank.ensures.states c.in_ok-blank.ensures.holders c.in_ok-blank.ensures.seen
+returns-clause-opening c = listed_fill-opening _ _ _ _ _
+    c.in_ok-blank.ensures.states c.in_ok-blank.ensures.holders c.in_ok-blank.ensures.seen

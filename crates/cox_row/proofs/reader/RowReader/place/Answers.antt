@@ -11,7 +11,8 @@ pub kept_place-requires-in-Some-clause-x : goal.kept_place-requires-in-Some-clau
 kept_place-requires-in-Some-clause-x c =
     let serves = rw c.in-Some.is at c.requires.reader.serves
     in (viewed-right (integer_matrix c.args.ctx.now.matrix) c.len-len.ensures.admissible c.args.ctx.now.members c.len-len.ensures.closed
-    c.args.self.now.number c.requires.reader.number c.in-Some.view.now serves.0 c.args.x c.in_ok-image-in-Some.image c.requires.x c.in_ok-image-in-Some.ensures).0
+    c.args.self.now.number c.requires.reader.number c.in-Some.view.now serves.0
+    c.args.x c.in_ok-image-in-Some.image c.requires.x c.in_ok-image-in-Some.ensures).0
 
 pub returns-in_err-image-in-Some-clause-exactly : goal.returns-in_err-image-in-Some-clause-exactly
 returns-in_err-image-in-Some-clause-exactly c =

@@ -9,7 +9,8 @@ use Rattle.cox_row.specs.Rising.{number_at}
 use Rattle.cox_claims.specs.Knowledge.{looked}
 use Rattle.cox_claims.specs.Seats.{view_of, HasSeen}
 use Rattle.cox_row_store.specs.Stores.{limit_of}
-use Rattle.cox_workers.proofs.SeatSteps.{needs-map, unmade_by-needed, unmade_err, looked_kept, looked_void, published_kept, voided_kept, unmade_missing}
+use Rattle.cox_workers.proofs.SeatSteps.{needs-map, unmade_by-needed, unmade_err, looked_kept}
+use Rattle.cox_workers.proofs.SeatSteps.{looked_void, published_kept, voided_kept, unmade_missing}
 use Rattle.cox_workers.proofs.WaitingOrder.{beyond-still, from-beyond}
 use Rattle.cox_workers.proofs.Working.{ready_still, work-trans, work-same, work-needed, work-tables, work-list}
 use Rattle.cox_workers.proofs.NeedsByNumber.{lower-needed_at, correction-needed_at, correction-before_at}
