@@ -23,7 +23,7 @@ use Rattle.cox_inverse.proofs.InversePolynomials.{inverse-same}
 use Rattle.cox_inverse.proofs.LastInverses.{large_inverse-words}
 use Rattle.cox_command.specs.declared.refusal.Refusal.{Refusal}
 use Rattle.cox_command.specs.declared.refusal.Refusal.TheVariants.{LargeRow}
-use Rattle.cox_replies.specs.Limits.{Limits}
+use Rattle.cox_replies.specs.declared.limits.Limits.{Limits}
 use Rattle.cox_replies.specs.Question.{IsRefused}
 use Rattle.cox_replies.specs.Listed.{RefusesLargeOr}
 use Rattle.cox_replies.specs.InverseReply.{inverse_limit, RefusesInverse, IsInverseText, IsInverseBeyond, row}

@@ -34,7 +34,7 @@ use Rattle.cox_answers.specs.Faults.{unanswered_by, unless_fault}
 use Rattle.cox_answers.specs.KeptBetween.{IsSomeBeyond, RefusesBetween, HoldsEnds, HoldsBetween, HasAllRows, IsFaultOfOne, IsReadOff}
 use Rattle.cox_answers.specs.declared.needs.Ends.{Ends}
 use Rattle.cox_replies.specs.InverseReply.{inverse_limit}
-use Rattle.cox_replies.specs.Limits.{Limits}
+use Rattle.cox_replies.specs.declared.limits.Limits.{Limits}
 use Rattle.cox_replies.specs.Question.{IsRefused}
 use Rattle.cox_replies.proofs.LargeOr.{large_or-allowed, large_or-refused}
 use Rattle.cox_answers.proofs.KeptMembers.{below-contained, none-needed, number-contains, member-few}

@@ -24,7 +24,7 @@ use Rattle.cox_rows.specs.Holding.{Holding}
 use Rattle.cox_rows.proofs.BeyondDecided.{beyond-same}
 use Rattle.cox_rows.proofs.NeedCases.{needed-below}
 use Rattle.cox_answers.specs.Kept.{AreOf}
-use Rattle.cox_replies.specs.Limits.{Limits}
+use Rattle.cox_replies.specs.declared.limits.Limits.{Limits}
 use Rattle.cox_replies.proofs.RowMembers.{interval-size}
 
 module _ (A : IntegerMatrix) (g : IsAdmissible A) (members : List (List ℕ)) (closed : IsClosed A members) (w : List ℕ)

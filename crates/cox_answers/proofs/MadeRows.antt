@@ -26,7 +26,7 @@ use Rattle.cox_rows.proofs.NeedDecided.{needs_beyond-same}
 use Rattle.cox_rows.proofs.FaultsOfRows.{fault-beyond}
 use Rattle.cox_answers.specs.Kept.{AreOf, IsMore, HoldsRow, Keeps}
 use Rattle.cox_answers.specs.Faults.{unanswered_by, unless_fault}
-use Rattle.cox_replies.specs.Limits.{Limits}
+use Rattle.cox_replies.specs.declared.limits.Limits.{Limits}
 use Rattle.cox_replies.specs.Question.{IsRefused}
 use Rattle.cox_replies.specs.RowReply.{RefusesRow}
 use Rattle.cox_replies.proofs.LargeOr.{large_or-allowed, large_or-refused}

@@ -7,7 +7,7 @@ use Rattle.cox_command.specs.declared.inquiry.NoWord.TheVariants.{Lwgraph}
 use Rattle.cox_rows.specs.Holding.{Holding}
 use Rattle.cox_replies.specs.declared.unanswered.Unanswered.{Unanswered}
 use Rattle.cox_replies.specs.declared.unanswered.Unanswered.TheVariants.{Refused, NoMemory}
-use Rattle.cox_replies.specs.Limits.{Limits}
+use Rattle.cox_replies.specs.declared.limits.Limits.{Limits}
 use Rattle.cox_replies.specs.Question.{IsRefused}
 use Rattle.cox_replies.specs.GroupReply.{RefusesGroupRows, group_question}
 use Rattle.cox_answers.specs.Kept.{Keeps}

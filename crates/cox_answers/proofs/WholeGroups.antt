@@ -24,7 +24,7 @@ use Rattle.cox_rows.specs.RowsFaults.{IsFaultOfSome}
 use Rattle.cox_rows.specs.Beyond.{IsBeyond, NeedsBeyond}
 use Rattle.cox_rows.proofs.FaultsOfRows.{fault-beyond}
 use Rattle.cox_command.specs.declared.refusal.Refusal.TheVariants.{LargeRow}
-use Rattle.cox_replies.specs.Limits.{Limits}
+use Rattle.cox_replies.specs.declared.limits.Limits.{Limits}
 use Rattle.cox_replies.specs.Question.{IsRefused}
 use Rattle.cox_replies.specs.GroupReply.{RefusesGroupRows}
 use Rattle.cox_answers.proofs.MadeRows.{more-of}

@@ -9,7 +9,7 @@ use Rattle.cox_command.specs.declared.refusal.Refusal.{Refusal}
 use Rattle.cox_replies.specs.declared.unanswered.Unanswered.{Unanswered}
 use Rattle.cox_replies.specs.declared.unanswered.Unanswered.TheVariants as unanswered
 use Rattle.cox_replies.specs.Question.{RefusesIf, IsRefused}
-use Rattle.cox_replies.specs.Limits.{Limits}
+use Rattle.cox_replies.specs.declared.limits.Limits.{Limits}
 
 -- the group has more elements than the limit, or one of too many letters
 abbrev pub RefusesLargeGroup : Limits → IntegerMatrix → Refusal → Type 0

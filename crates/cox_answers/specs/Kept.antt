@@ -8,14 +8,13 @@ use Rattle.cox_base.specs.SortedList.{IsListOf}
 use Rattle.cox_context.specs.Numbers.{word_at}
 use Rattle.cox_context.specs.Numbering.{IsNumberOf}
 use Rattle.cox_context.specs.Spread.{AreKept as KeepNumbers}
-use Rattle.cox_options.specs.declared.options.Options.{Options}
 use Rattle.cox_rows.specs.Beyond.{NeedsBeyond}
 use Rattle.cox_rows.specs.Ensured.{HoldsNeed}
 use Rattle.cox_rows.specs.Holding.{Holding, HasRow}
 use Rattle.cox_command.specs.declared.refusal.Refusal.{Refusal}
 use Rattle.cox_replies.specs.declared.unanswered.Unanswered.{Unanswered}
 use Rattle.cox_replies.specs.declared.unanswered.Unanswered.TheVariants as unanswered
-use Rattle.cox_replies.specs.Limits.{Limits}
+use Rattle.cox_replies.specs.declared.limits.Limits.{Limits}
 use Rattle.cox_replies.specs.Question.{IsRefused}
 use Rattle.cox_answers.specs.declared.kept_rows.WholeGroup.{WholeGroup}
 
@@ -24,18 +23,18 @@ pub record KeptState : Type 0 where
   pub rows : Option Holding
   pub whole : WholeGroup
 
--- what contracts see of a workspace: the group that is set, the options of the session, the rows that are kept, and what is known of all of
+-- what contracts see of a workspace: the group that is set, the limits of the session, the rows that are kept, and what is known of all of
 -- them
 pub record WorkspaceState : Type 0 where
   pub table : CoxeterMatrix
-  pub options : Options
+  pub limits : Limits
   pub rows : Option Holding
   pub whole : WholeGroup
 
--- the group and the options stayed
+-- the group and the limits stayed
 pub record IsSameWorkspace (old new : WorkspaceState) : Type 0 where
   pub table : new.table ≡ old.table
-  pub options : new.options ≡ old.options
+  pub limits : new.limits ≡ old.limits
 
 -- the rows are those of this group, within these limits
 pub record AreOf (g : CoxeterMatrix) (limits : Limits) (rows : Holding) : Type 0 where

@@ -13,7 +13,7 @@ use Rattle.cox_rows.specs.RowsFaults.{IsRowsFault}
 use Rattle.cox_inverse.specs.declared.finite.LongestElement.{LongestElement}
 use Rattle.cox_inverse.specs.WholeGroups.{IsReadable}
 use Rattle.cox_command.specs.declared.refusal.Refusal.{Refusal}
-use Rattle.cox_replies.specs.Limits.{Limits}
+use Rattle.cox_replies.specs.declared.limits.Limits.{Limits}
 use Rattle.cox_replies.specs.Listed.{RefusesLargeOr}
 use Rattle.cox_replies.specs.InverseReply.{inverse_limit}
 use Rattle.cox_answers.specs.Kept.{HoldsElement}

@@ -11,8 +11,7 @@ use Rattle.cox_command.specs.declared.inquiry.OneWord.TheVariants.{OfRow, Cert, 
 use Rattle.cox_command.specs.declared.inquiry.TwoWord.TheVariants.{OfEntry, Invpol}
 use Rattle.cox_replies.specs.declared.unanswered.Unanswered.{Unanswered}
 use Rattle.cox_replies.specs.declared.unanswered.Unanswered.TheVariants as unanswered
-use Rattle.cox_replies.specs.Limits.{Limits}
-use Rattle.cox_replies.specs.SessionLimits.{limits_of}
+use Rattle.cox_replies.specs.declared.limits.Limits.{Limits}
 use Rattle.cox_replies.specs.Question.{IsRefused}
 use Rattle.cox_replies.specs.Listed.{RefusesLargeOr}
 use Rattle.cox_replies.specs.RowReply.{RefusesRow}
@@ -32,7 +31,7 @@ use Rattle.cox_answers.specs.declared.needs.Found.TheVariants as found
 
 -- the right text of a command was put, or it is refused and nothing was put, or memory ran out
 abbrev pub Answers : Result Unit Unanswered → WorkspaceState → Inquiry → List ℕ → List ℕ → Type 0
-Answers result work inquiry before after = let question = question_of inquiry (limits_of work.options) work.table in
+Answers result work inquiry before after = let question = question_of inquiry work.limits work.table in
     PutsUnless result question.Refuses question.IsText before after
 
 -- what is needed was made, or it is refused, or memory ran out
@@ -62,7 +61,7 @@ need_refuses (Words start count) limits g = RefusesWork limits (integer_matrix g
 -- the row of w is kept under this number, and nothing refuses it
 abbrev pub IsRowOf : WorkspaceState → List ℕ → ℕ → Type 0
 IsRowOf work w i = IsSomeAnd work.rows (HoldsRow (integer_matrix work.table) w i)
-    × IsRefused (RefusesRow (limits_of work.options) (integer_matrix work.table) w) None
+    × IsRefused (RefusesRow work.limits (integer_matrix work.table) w) None
 
 abbrev pub HasRowOf : WorkspaceState → List ℕ → Found → Type 0
 HasRowOf work w (found.Row i) = IsRowOf work w i
@@ -71,21 +70,21 @@ HasRowOf work w _ = ⊥
 -- there is no element between y and w, or the rows of all of them are kept, and y and w have these numbers; and nothing refuses them
 abbrev pub HasBetween : WorkspaceState → List ℕ → List ℕ → Found → Type 0
 HasBetween work y w found.Apart = (IsBelow (integer_matrix work.table) y w → ⊥)
-    × IsRefused (RefusesLargeOr (limits_of work.options) (integer_matrix work.table) w ⊥) None
+    × IsRefused (RefusesLargeOr work.limits (integer_matrix work.table) w ⊥) None
 HasBetween work y w (found.Between ends) = IsBelow (integer_matrix work.table) y w
     × IsSomeAnd work.rows (HoldsBetween (integer_matrix work.table) y w ends)
-    × IsRefused (RefusesBetween (limits_of work.options) (integer_matrix work.table) y w) None
+    × IsRefused (RefusesBetween work.limits (integer_matrix work.table) y w) None
 HasBetween work y w _ = ⊥
 
 -- the rows of all elements of the group are kept, and nothing refuses them
 abbrev pub HasGroup : WorkspaceState → Type 0
 HasGroup work = IsSomeAnd work.rows (HoldsAll (integer_matrix work.table))
-    × IsRefused (RefusesGroupRows (limits_of work.options) (integer_matrix work.table)) None
+    × IsRefused (RefusesGroupRows work.limits (integer_matrix work.table)) None
 
 -- the rows of these words sum up to this, and nothing refuses them
 abbrev pub HasTotals : WorkspaceState → List (List ℕ) → Found → Type 0
 HasTotals work words (found.Totals totals) = AreTotals (integer_matrix work.table) words totals
-    × IsRefused (RefusesWork (limits_of work.options) (integer_matrix work.table) words) None
+    × IsRefused (RefusesWork work.limits (integer_matrix work.table) words) None
 HasTotals work words _ = ⊥
 
 -- this shows that what is needed is there

@@ -17,7 +17,6 @@ ghost use Rattle.cox_print.specs.AnswerText.{element_text, descent_text};
 ghost use Rattle.cox_command.specs.ParseContract.{HasLetters};
 ghost use Rattle.cox_command.specs.declared.inquiry.Inquiry.TheVariants.{One, Two};
 ghost use Rattle.cox_answers.specs.Kept.{IsSameWorkspace};
-ghost use Rattle.cox_replies.specs.SessionLimits.{limits_of};
 ghost use Rattle.cox_replies.specs.RowReply.{RefusesRow};
 ghost use Rattle.cox_replies.specs.InquiryQuestion.{IsOrderText, IsRowText, IsEntryText, question_of};
 ghost use Rattle.cox_replies.specs.Putting.{PutsUnless, IsEnded};
@@ -52,8 +51,8 @@ impl Workspace {
     ) -> Result<(), Unanswered>
         requires words { HasLetters self.old.table.rank inquiry.now }
         requires ready { M.ready maker.now }
-        ensures puts { PutsUnless result (question_of inquiry.now (limits_of self.old.options) self.old.table).Refuses
-            (IsEnded (question_of inquiry.now (limits_of self.old.options) self.old.table).IsText) out.old.items out.new.items }
+        ensures puts { PutsUnless result (question_of inquiry.now self.old.limits self.old.table).Refuses
+            (IsEnded (question_of inquiry.now self.old.limits self.old.table).IsText) out.old.items out.new.items }
         ensures same { IsSameWorkspace self.old self.new }
         ensures group { IsCoxeterMatrix self.old.table }
     {
@@ -153,14 +152,14 @@ impl Workspace {
         ensures { Answers result self.now (One kind w.now) out.old.items out.new.items }
     {
         let table = self.table();
-        let options = self.options();
+        let limits = self.limits();
         match kind {
             OneWord::Compute => put_normal_form(out, table, w),
             OneWord::Length => unrefused(put_count(out, table.length(w) as usize)),
             OneWord::Inverse => put_inverse(out, table, w),
             OneWord::Descent => unrefused(put_both_descents(out, table, w)),
-            OneWord::Coatoms => put_coatoms(out, table, options, w),
-            OneWord::Betti => put_betti(out, table, options, w),
+            OneWord::Coatoms => put_coatoms(out, table, limits, w),
+            OneWord::Betti => put_betti(out, table, limits, w),
             OneWord::OfRow(kind) => self.put_row(out, kind, w, found),
             OneWord::Cert => {
                 let i = self.number_found(w, found);
@@ -186,7 +185,7 @@ impl Workspace {
         let table = self.table();
         match kind {
             TwoWord::Inorder => put_inorder(out, table, y, w),
-            TwoWord::Interval => put_interval(out, table, self.options(), y, w),
+            TwoWord::Interval => put_interval(out, table, self.limits(), y, w),
             TwoWord::Rpol => put_rpol(out, table, y, w),
             TwoWord::OfEntry(kind) => self.put_entry(out, kind, y, w, found),
             TwoWord::Invpol => self.put_invpol(out, y, w, found),
@@ -202,7 +201,7 @@ impl Workspace {
         found: &Found,
     ) -> Result<(), Unanswered>
         requires { HasRowOf self.now w.now.items found.now }
-        ensures { PutsUnless result (RefusesRow (limits_of self.now.options) (integer_matrix self.now.table) w.now.items)
+        ensures { PutsUnless result (RefusesRow self.now.limits (integer_matrix self.now.table) w.now.items)
             (IsRowText kind (integer_matrix self.now.table) w.now.items) out.old.items out.new.items }
     {
         let i = self.number_found(w, found);
@@ -220,7 +219,7 @@ impl Workspace {
     ) -> Result<(), Unanswered>
         requires word { IsWord self.now.table.rank y.now.items }
         requires found { HasRowOf self.now w.now.items found.now }
-        ensures { PutsUnless result (RefusesRow (limits_of self.now.options) (integer_matrix self.now.table) w.now.items)
+        ensures { PutsUnless result (RefusesRow self.now.limits (integer_matrix self.now.table) w.now.items)
             (IsEntryText kind (integer_matrix self.now.table) y.now.items w.now.items) out.old.items out.new.items }
     {
         let i = self.number_found(w, found);

@@ -10,7 +10,7 @@ ghost use Rattle.cox_base.specs.IntegerMatrix.{integer_matrix};
 ghost use Rattle.cox_context.specs.Closed.{IsClosed};
 ghost use Rattle.cox_context.specs.declared.fault.ContextFault.{ContextFault};
 ghost use Rattle.cox_context.specs.declared.fault.ContextFault.TheVariants.{NoMemory};
-ghost use Rattle.cox_replies.specs.Limits.{Limits};
+ghost use Rattle.cox_replies.specs.declared.limits.Limits.{Limits};
 ghost use Rattle.cox_replies.specs.Listed.{RefusesLargeOr};
 ghost use Rattle.cox_replies.specs.Question.{IsRefused};
 ghost use Rattle.cox_answers.specs.Kept.{AreKept, AreGrown, IsStillKnown, HoldsElement};

@@ -1,34 +1,22 @@
 //! Whether two workspaces have the same group and the same limits.
 ghost use Rattle.std.specs.Prelude.{◌≡◌, ◌↔◌, ℕ, ◌<◌, ◌≤◌, IsTrue};
 ghost use Rattle.cox_base.specs.Matrix.{IsLetter, label};
-ghost use Rattle.cox_replies.specs.SessionLimits.{limits_of};
 
 use crate::workspace::Workspace;
 use cox_base::{Coxeter, MAX_RANK};
-use cox_options::Options;
 
 impl Workspace {
-    /// Whether another workspace has the same group, and options with the same limits. Then a command asks the same in both.
+    /// Whether another workspace has the same group and the same limits. Then a command asks the same in both.
     pub(crate) fn is_like(&self, other: &Workspace) -> bool
         ensures table { IsTrue result → other.now.table ≡ self.now.table }
-        ensures limits { IsTrue result → limits_of other.now.options ≡ limits_of self.now.options }
-        ensures only { other.now.table ≡ self.now.table → limits_of other.now.options ≡ limits_of self.now.options → IsTrue result }
+        ensures limits { IsTrue result → other.now.limits ≡ self.now.limits }
+        ensures only { other.now.table ≡ self.now.table → other.now.limits ≡ self.now.limits → IsTrue result }
     {
         if !is_same_group(self.group(), other.group()) {
             return false;
         }
-        has_same_limits(self.options(), other.options())
+        self.limits() == other.limits()
     }
-}
-
-/// Whether the limits of two options are the same; how many workers there are does not matter.
-fn has_same_limits(one: Options, other: Options) -> bool
-    ensures { IsTrue result ↔ (limits_of other ≡ limits_of one) }
-{
-    if one.context() != other.context() || one.roots() != other.roots() {
-        return false;
-    }
-    one.coef() == other.coef()
 }
 
 /// Whether two Coxeter matrices are the same.

@@ -3,7 +3,7 @@ ghost use Rattle.std.specs.Prelude.{ℕ, Some, IfSome};
 ghost use Rattle.cox_base.specs.Matrix.{CoxeterMatrix, IsWord};
 ghost use Rattle.cox_command.specs.ParseContract.{HasLetters};
 ghost use Rattle.cox_command.specs.declared.refusal.Refusal.{Refusal};
-ghost use Rattle.cox_replies.specs.Limits.{Limits};
+ghost use Rattle.cox_replies.specs.declared.limits.Limits.{Limits};
 ghost use Rattle.cox_answers.specs.Kept.{WorkspaceState};
 ghost use Rattle.cox_replies.specs.Question.{IsRefused};
 ghost use Rattle.cox_replies.specs.InquiryQuestion.{question_of};

@@ -10,64 +10,63 @@ use crate::small_roots::SmallRoots;
 use crate::whole_group_policy::WholeGroupPolicy;
 use cox_base::{Coxeter, MAX_RANK};
 use cox_minroots::RootTable;
-use cox_options::Options;
+use cox_replies::Limits;
 use std::alloc::{AllocError, Global};
 use std::marker::Model;
 
-/// The group that is set, by its small roots, the options of the session, and the rows that were made so far.
+/// The group that is set, by its small roots, the limits of the session, and the rows that were made so far.
 ///
 /// Which rows are kept shows in no answer.
 #[derive(Drop)]
 pub struct Workspace {
     pub(crate) roots: SmallRoots,
-    pub(crate) options: Options,
+    pub(crate) limits: Limits,
     pub(crate) kept: KeptRows,
     policy: WholeGroupPolicy,
 }
 
 impl Model for Workspace {
-    ghost use Rattle.cox_replies.specs.SessionLimits.{limits_of};
     ghost use Rattle.cox_answers.specs.Kept.{WorkspaceState, AreKept};
 
     ghost Value = { WorkspaceState };
 
-    ghost view = { λ w. record { table = w.roots; options = w.options; rows = w.kept.rows; whole = w.kept.whole } };
+    ghost view = { λ w. record { table = w.roots; limits = w.limits; rows = w.kept.rows; whole = w.kept.whole } };
 
-    ghost invariant = { λ w. AreKept w.roots (limits_of w.options) w.kept.rows };
+    ghost invariant = { λ w. AreKept w.roots w.limits w.kept.rows };
 }
 
 impl Workspace {
     ghost use Rattle.std.specs.Prelude.{◌≡◌, ◌≤◌, IfOk, None};
     ghost use Rattle.cox_base.specs.Admissible.{IsCoxeterMatrix};
 
-    /// A group with the options of the session; no row is made yet.
-    pub fn new(alloc: Global, table: RootTable, options: Options) -> Result<Workspace, AllocError>
+    /// A group with the limits of the session; no row is made yet.
+    pub fn new(alloc: Global, table: RootTable, limits: Limits) -> Result<Workspace, AllocError>
         ensures table { IfOk result (λ work. work.table ≡ table) }
-        ensures options { IfOk result (λ work. work.options ≡ options) }
+        ensures limits { IfOk result (λ work. work.limits ≡ limits) }
     {
         let roots = SmallRoots::new(alloc, table)?;
-        Ok(Workspace::without_rows(roots, options))
+        Ok(Workspace::without_rows(roots, limits))
     }
 
-    /// A workspace with the same group and options, in which no row is made yet. The two share the table of small roots.
+    /// A workspace with the same group and limits, in which no row is made yet. The two share the table of small roots.
     pub fn fresh(&self) -> Result<Workspace, AllocError>
         ensures table { IfOk result (λ work. work.table ≡ self.now.table) }
-        ensures options { IfOk result (λ work. work.options ≡ self.now.options) }
+        ensures limits { IfOk result (λ work. work.limits ≡ self.now.limits) }
         ensures rows { IfOk result (λ work. work.rows ≡ None) }
     {
         let roots = self.roots.share()?;
-        Ok(Workspace::without_rows(roots, self.options))
+        Ok(Workspace::without_rows(roots, self.limits))
     }
 
-    /// The group with these small roots, and the options of the session; no row is made yet.
-    fn without_rows(roots: SmallRoots, options: Options) -> Workspace
+    /// The group with these small roots, and the limits of the session; no row is made yet.
+    fn without_rows(roots: SmallRoots, limits: Limits) -> Workspace
         ensures table { result.table ≡ roots }
-        ensures options { result.options ≡ options }
+        ensures limits { result.limits ≡ limits }
         ensures rows { result.rows ≡ None }
     {
         Workspace {
             roots,
-            options,
+            limits,
             kept: KeptRows::new(),
             policy: WholeGroupPolicy::new(),
         }
@@ -89,11 +88,11 @@ impl Workspace {
         self.table().group()
     }
 
-    /// The options of the session.
-    pub fn options(&self) -> Options
-        ensures { result ≡ self.now.options }
+    /// The limits of the session.
+    pub fn limits(&self) -> Limits
+        ensures { result ≡ self.now.limits }
     {
-        self.options
+        self.limits
     }
 
     /// The small roots of the group.

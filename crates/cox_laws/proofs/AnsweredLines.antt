@@ -24,7 +24,7 @@ use Rattle.cox_command.specs.declared.inquiry.TwoWord.{TwoWord}
 use Rattle.cox_command.specs.declared.inquiry.TwoWord.TheVariants.{Inorder}
 use Rattle.cox_command.specs.declared.inquiry.NoWord.{NoWord}
 use Rattle.cox_command.specs.declared.inquiry.NoWord.TheVariants.{Lwgraph}
-use Rattle.cox_replies.specs.Limits.{Limits}
+use Rattle.cox_replies.specs.declared.limits.Limits.{Limits}
 use Rattle.cox_replies.specs.Question.{Question, IsRefused}
 use Rattle.cox_replies.specs.RowReply.{RefusesRow}
 use Rattle.cox_replies.specs.GroupReply.{group_question}

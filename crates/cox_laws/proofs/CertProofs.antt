@@ -42,7 +42,7 @@ use Rattle.cox_cert.specs.declared.status.CheckStatus.TheVariants.{Yes, NoMemory
 use Rattle.cox_outside.specs.Supply.{Supply}
 use Rattle.cox_outside.specs.Outlet.{Outlet}
 use Rattle.cox_outside.specs.declared.limits.TheConstants.{INPUT_LIMIT}
-use Rattle.cox_replies.specs.Limits.{Limits}
+use Rattle.cox_replies.specs.declared.limits.Limits.{Limits}
 use Rattle.cox_replies.specs.Question.{IsRefused}
 use Rattle.cox_replies.specs.CertReply.{RefusesCert, IsCertText}
 use Rattle.cox_replies.proofs.CertRefusals.{cert-none}

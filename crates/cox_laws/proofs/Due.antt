@@ -9,7 +9,7 @@ use Rattle.std.specs.Io.KnownBytes.{IsAtEnd}
 use Rattle.cox_outside.specs.declared.limits.TheConstants.{INPUT_LIMIT}
 use Rattle.cox_tokens.specs.Line.{line_feed, ended_lines, lines_of, lines_within}
 use Rattle.cox_outside.specs.Outlet.{IsPrefix}
-use Rattle.cox_replies.specs.Limits.{Limits}
+use Rattle.cox_replies.specs.declared.limits.Limits.{Limits}
 use Rattle.cox_shell.specs.Reply.{Reply, texts}
 use Rattle.cox_shell.specs.Answer.{script_lines}
 use Rattle.cox_shell.specs.ScriptAnswer.{IsAnswer}

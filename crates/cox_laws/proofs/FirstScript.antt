@@ -12,7 +12,7 @@ use Rattle.cox_outside.specs.Supply.{Supply}
 use Rattle.cox_outside.specs.Outlet.{Outlet, Writes}
 use Rattle.cox_options.specs.Arguments.{IsTaken, given_number}
 use Rattle.cox_cert.specs.Unhindered.{Rose}
-use Rattle.cox_replies.specs.Limits.{Limits}
+use Rattle.cox_replies.specs.declared.limits.Limits.{Limits}
 use Rattle.cox_shell.specs.declared.status.Status.{Status}
 use Rattle.cox_shell.specs.declared.status.Status.TheVariants.{Done, Refused, Usage, ReadFault, WriteFault, NoMemory, InputLimit}
 use Rattle.cox_shell.specs.Reply.{State, Reply, opening, silence, texts}

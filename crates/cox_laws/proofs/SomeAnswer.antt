@@ -3,7 +3,7 @@ use Rattle.std.proofs.Common.{◌≡◌, ℕ, Bool, true, false, List, [], ◌�
 use Rattle.std.specs.Bool.{MatchBool}
 use Rattle.cox_tokens.specs.Line.{content_of}
 use Rattle.cox_command.specs.declared.refusal.Refusal.{Refusal}
-use Rattle.cox_replies.specs.Limits.{Limits}
+use Rattle.cox_replies.specs.declared.limits.Limits.{Limits}
 use Rattle.cox_shell.specs.Reply.{OpenList, State, Reply, opening, texts}
 use Rattle.cox_shell.specs.ListReply.{IsReplyTo, unread_reply}
 use Rattle.cox_shell.specs.Blocks.{IsListReply}

@@ -11,7 +11,7 @@ use Rattle.cox_outside.specs.Outlet.{Outlet}
 use Rattle.cox_options.specs.Arguments.{IsTaken}
 use Rattle.cox_shell.specs.declared.status.Status.{Status}
 use Rattle.cox_shell.specs.declared.status.Status.TheVariants.{Done, Refused, Usage, ReadFault, WriteFault, NoMemory, InputLimit}
-use Rattle.cox_replies.specs.Limits.{Limits}
+use Rattle.cox_replies.specs.declared.limits.Limits.{Limits}
 use Rattle.cox_shell.specs.Answer.{AreScriptReplies}
 use Rattle.cox_cert.specs.Unhindered.{Rose}
 use Rattle.cox_laws.specs.Unhindered.{IsUnhindered}

@@ -2,7 +2,7 @@
 use Rattle.std.specs.Prelude.{◌≡◌, ℕ, ◌<◌, false, List, length}
 use Rattle.cox_outside.specs.declared.limits.TheConstants.{INPUT_LIMIT}
 use Rattle.cox_outside.specs.Outlet.{Outlet, Writes}
-use Rattle.cox_replies.specs.Limits.{Limits}
+use Rattle.cox_replies.specs.declared.limits.Limits.{Limits}
 use Rattle.cox_shell.specs.Reply.{Reply, texts}
 use Rattle.cox_shell.specs.Answer.{AreScriptReplies, has_quit}
 

@@ -55,7 +55,7 @@ ghost use Rattle.cox_cert.specs.Checks.{IsCheck};
 ghost use Rattle.cox_cert.specs.Unhindered.{Rose};
 ghost use Rattle.cox_cert.specs.declared.status.CheckStatus.{CheckStatus};
 ghost use Rattle.cox_cert.specs.declared.status.CheckStatus.TheVariants.{Yes, NoMemory as CheckNoMemory};
-ghost use Rattle.cox_replies.specs.Limits.{Limits};
+ghost use Rattle.cox_replies.specs.declared.limits.Limits.{Limits};
 ghost use Rattle.cox_replies.specs.Listed.{IsOfList};
 ghost use Rattle.cox_replies.specs.RowReply.{coefficients_to, IsExtremalBelow};
 ghost use Rattle.cox_replies.specs.InverseReply.{IsInverseBeyond};

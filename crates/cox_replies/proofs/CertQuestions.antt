@@ -16,7 +16,7 @@ use Rattle.cox_rows.proofs.NeedDecided.{tell-needs_beyond}
 use Rattle.cox_command.specs.declared.refusal.Refusal.{Refusal}
 use Rattle.cox_command.specs.declared.refusal.Refusal.TheVariants.{LargeInterval, FarApart, LargeRow}
 use Rattle.cox_replies.specs.Question.{asks}
-use Rattle.cox_replies.specs.Limits.{Limits}
+use Rattle.cox_replies.specs.declared.limits.Limits.{Limits}
 use Rattle.cox_replies.specs.CertReply.{RefusesCert, IsCertText}
 use Rattle.cox_replies.specs.Answerable.{IsAnswerable}
 use Rattle.cox_replies.proofs.RowQuestions.{listed-by_row}

@@ -22,7 +22,7 @@ use Rattle.cox_command.specs.declared.inquiry.NoWord.{NoWord}
 use Rattle.cox_command.specs.declared.inquiry.NoWord.TheVariants.{Lwgraph, Rwgraph, Lcells, Rcells, Lrcells}
 use Rattle.cox_command.specs.declared.refusal.Refusal.{Refusal}
 use Rattle.cox_command.specs.declared.refusal.Refusal.TheVariants.{LargeInterval, LargeRow}
-use Rattle.cox_replies.specs.Limits.{Limits}
+use Rattle.cox_replies.specs.declared.limits.Limits.{Limits}
 use Rattle.cox_replies.specs.Question.{IsRefused, asks}
 use Rattle.cox_replies.specs.GroupReply.{RefusesGroupRows, vertex_text, IsGraphText, IsCellsText, group_question}
 use Rattle.cox_replies.specs.Answerable.{HasOneText, IsAnswerable}

@@ -11,7 +11,7 @@ use Rattle.cox_inverse.specs.InverseRow.{IsInverseRow}
 use Rattle.cox_inverse.proofs.InverseRowExists.{inverse_of, inverse_of-is, inverse_of-value}
 use Rattle.cox_command.specs.declared.refusal.Refusal.{Refusal}
 use Rattle.cox_replies.specs.Question.{asks}
-use Rattle.cox_replies.specs.Limits.{Limits}
+use Rattle.cox_replies.specs.declared.limits.Limits.{Limits}
 use Rattle.cox_replies.specs.RowReply.{coefficients_to}
 use Rattle.cox_replies.specs.InverseReply.{RefusesInverse, IsInverseText, IsInverseBeyond}
 use Rattle.cox_replies.specs.Answerable.{IsAnswerable}

@@ -7,7 +7,7 @@ use Rattle.cox_base.specs.SortedList.{HasMoreThan}
 use Rattle.cox_context.proofs.IntervalLists.{interval-decided}
 use Rattle.cox_command.specs.declared.refusal.Refusal.{Refusal}
 use Rattle.cox_command.specs.declared.refusal.Refusal.TheVariants.{LargeInterval, LargeRow}
-use Rattle.cox_replies.specs.Limits.{Limits}
+use Rattle.cox_replies.specs.declared.limits.Limits.{Limits}
 use Rattle.cox_replies.specs.Question.{RefusesIf, IsRefused}
 use Rattle.cox_replies.specs.Listed.{RefusesLargeOr}
 

@@ -13,7 +13,7 @@ use Rattle.cox_cells.proofs.SomeList.{some_list}
 use Rattle.cox_module.specs.Images.{AreImages}
 use Rattle.cox_module.proofs.OneImage.{image-exists}
 use Rattle.cox_replies.specs.Question.{asks}
-use Rattle.cox_replies.specs.Limits.{Limits}
+use Rattle.cox_replies.specs.declared.limits.Limits.{Limits}
 use Rattle.cox_replies.specs.GroupReply.{RefusesGroupRows}
 use Rattle.cox_replies.specs.ModuleReply.{IsModuleText, module_text}
 use Rattle.cox_replies.specs.Answerable.{IsAnswerable}

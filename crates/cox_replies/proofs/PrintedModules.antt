@@ -12,7 +12,7 @@ use Rattle.cox_module.specs.declared.term.Term.{Term}
 use Rattle.cox_module.specs.Images.{AreImages}
 use Rattle.cox_module.specs.Relations.{MeetRelations}
 use Rattle.cox_module.proofs.Relations as theory
-use Rattle.cox_replies.specs.Limits.{Limits}
+use Rattle.cox_replies.specs.declared.limits.Limits.{Limits}
 use Rattle.cox_replies.specs.Question.{IsRefused}
 use Rattle.cox_replies.specs.GroupReply.{RefusesGroupRows}
 use Rattle.cox_replies.specs.ModuleReply.{IsModuleText, module_text}

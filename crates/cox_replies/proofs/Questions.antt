@@ -24,7 +24,7 @@ use Rattle.cox_print.specs.AnswerText.{truth_text, elements_text}
 use Rattle.cox_command.specs.declared.inquiry.Inquiry.{Inquiry}
 use Rattle.cox_command.specs.declared.inquiry.Inquiry.TheVariants.{One, Two, Plain, Work}
 use Rattle.cox_replies.specs.Question.{asks}
-use Rattle.cox_replies.specs.Limits.{Limits}
+use Rattle.cox_replies.specs.declared.limits.Limits.{Limits}
 use Rattle.cox_replies.specs.Listed.{RefusesLargeOr}
 use Rattle.cox_replies.specs.InquiryQuestion.{RefusesFar, counts_text, one_question, two_question, question_of}
 use Rattle.cox_replies.specs.WorkReply.{generated_words}

@@ -27,7 +27,7 @@ use Rattle.cox_command.specs.declared.inquiry.RowKind.TheVariants.{Klbasis}
 use Rattle.cox_command.specs.declared.inquiry.EntryKind.{EntryKind}
 use Rattle.cox_command.specs.declared.inquiry.EntryKind.TheVariants.{Pol, Mu}
 use Rattle.cox_replies.specs.Question.{asks}
-use Rattle.cox_replies.specs.Limits.{Limits}
+use Rattle.cox_replies.specs.declared.limits.Limits.{Limits}
 use Rattle.cox_replies.specs.Listed.{IsOfRow}
 use Rattle.cox_replies.specs.RowReply.{RefusesRow, coefficients_to, IsExtremalBelow}
 use Rattle.cox_replies.specs.InquiryQuestion.{IsRowText, IsEntryText}

@@ -14,7 +14,7 @@ use Rattle.cox_command.specs.declared.refusal.Refusal.TheVariants.{NoGroup}
 use Rattle.cox_command.specs.declared.refusal.Refusal.TheVariants.{ForeignLetter, LongWord, LongLine, ForeignByte, ManyRoots, LargeInterval}
 use Rattle.cox_command.specs.declared.refusal.Refusal.TheVariants.{FarApart, LargeRow, LongList}
 use Rattle.cox_print.specs.AnswerText.{work_text}
-use Rattle.cox_replies.specs.Limits.{Limits}
+use Rattle.cox_replies.specs.declared.limits.Limits.{Limits}
 use Rattle.cox_replies.specs.Question.{command_refusals, IsRefused, asks}
 use Rattle.cox_replies.specs.RowReply.{RefusesRow}
 use Rattle.cox_replies.specs.WorkReply.{RefusesWork, IsWorkText}

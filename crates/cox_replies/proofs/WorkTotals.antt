@@ -8,7 +8,7 @@ use Rattle.cox_command.specs.declared.refusal.Refusal.{Refusal}
 use Rattle.cox_command.specs.declared.generated.TheConstants.{WORD_LETTERS}
 use Rattle.cox_command.specs.Generated.{state_after}
 use Rattle.cox_print.specs.AnswerText.{work_text}
-use Rattle.cox_replies.specs.Limits.{Limits}
+use Rattle.cox_replies.specs.declared.limits.Limits.{Limits}
 use Rattle.cox_replies.specs.Question.{command_refusals, IsFirstRefusal, IsRefused}
 use Rattle.cox_replies.specs.RowReply.{RefusesRow}
 use Rattle.cox_replies.specs.WorkReply.{RefusesWork, generated_words, IsWorkText}

@@ -11,7 +11,7 @@ use Rattle.cox_certtext.specs.declared.limits.TheConstants.{MAX_LISTED, MAX_CHEC
 use Rattle.cox_rows.specs.Beyond.{IsBeyond, NeedsBeyond}
 use Rattle.cox_certtext.specs.Certificate.{certificate_text}
 use Rattle.cox_command.specs.declared.refusal.Refusal.{Refusal}
-use Rattle.cox_replies.specs.Limits.{Limits}
+use Rattle.cox_replies.specs.declared.limits.Limits.{Limits}
 use Rattle.cox_replies.specs.Question.{RefusesIf}
 use Rattle.cox_replies.specs.Listed.{IsOfRow}
 use Rattle.cox_replies.specs.RowReply.{coefficients_to}

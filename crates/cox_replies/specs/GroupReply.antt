@@ -16,7 +16,7 @@ use Rattle.cox_command.specs.declared.refusal.Refusal.{Refusal}
 use Rattle.cox_command.specs.declared.inquiry.NoWord.{NoWord}
 use Rattle.cox_command.specs.declared.inquiry.NoWord.TheVariants.{Lwgraph, Rwgraph, Lcells, Rcells, Lrcells}
 use Rattle.cox_print.specs.AnswerText.{list_text, members_text, head_text, edge_text}
-use Rattle.cox_replies.specs.Limits.{Limits}
+use Rattle.cox_replies.specs.declared.limits.Limits.{Limits}
 use Rattle.cox_replies.specs.Question.{Question, RefusesIf, asks}
 
 -- the group has more elements than the limit, or one of too many letters; or else the row of some element has a

@@ -24,7 +24,7 @@ use Rattle.cox_base.specs.Interval.{IsBetween, IsCoatom, counts_by_length}
 use Rattle.cox_print.specs.AnswerText.{element_text, descent_text, truth_text, numbers_text, elements_text}
 use Rattle.cox_command.specs.declared.inquiry.Inquiry.{Inquiry}
 use Rattle.cox_command.specs.declared.inquiry.Inquiry.TheVariants.{One, Two, Plain, Work}
-use Rattle.cox_replies.specs.Limits.{Limits}
+use Rattle.cox_replies.specs.declared.limits.Limits.{Limits}
 use Rattle.cox_replies.specs.Question.{Question, RefusesIf, asks}
 use Rattle.cox_replies.specs.Listed.{RefusesLargeOr, IsOfList, IsOfRow}
 use Rattle.cox_replies.specs.RowReply.{RefusesRow, coefficients_to, IsPolText, IsMuText, pairs_text, IsExtremalBelow, ihbetti_text}

@@ -1,5 +1,4 @@
-pub mod Limits
-pub mod SessionLimits
+pub mod LimitFields
 pub mod Question
 pub mod Listed
 pub mod RowReply

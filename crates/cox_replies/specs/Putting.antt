@@ -13,7 +13,7 @@ use Rattle.cox_replies.specs.declared.unanswered.Unanswered.{Unanswered}
 use Rattle.cox_replies.specs.declared.unanswered.Unanswered.TheVariants as unanswered
 use Rattle.cox_replies.specs.Question.{IsRefused}
 use Rattle.cox_replies.specs.Listed.{RefusesLargeOr}
-use Rattle.cox_replies.specs.Limits.{Limits}
+use Rattle.cox_replies.specs.declared.limits.Limits.{Limits}
 
 -- one of the right texts was put; where memory ran out, a prefix of one
 abbrev pub PutsSome : Result Unit AllocError → (List ℕ → Type 0) → List ℕ → List ℕ → Type 0

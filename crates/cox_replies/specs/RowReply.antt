@@ -15,7 +15,7 @@ use Rattle.cox_row.specs.Extremal.{IsExtremal}
 use Rattle.cox_rows.specs.Beyond.{NeedsBeyond}
 use Rattle.cox_command.specs.declared.refusal.Refusal.{Refusal}
 use Rattle.cox_print.specs.AnswerText.{numbers_text, list_text, pair_text}
-use Rattle.cox_replies.specs.Limits.{Limits}
+use Rattle.cox_replies.specs.declared.limits.Limits.{Limits}
 use Rattle.cox_replies.specs.Listed.{RefusesLargeOr}
 
 -- the interval from the identity to w has more members than the limit; or some row that the row of w needs has a coefficient, or a value of

@@ -11,7 +11,7 @@ use Rattle.cox_command.specs.declared.refusal.Refusal.{Refusal}
 use Rattle.cox_command.specs.declared.generated.TheConstants.{WORD_LETTERS}
 use Rattle.cox_command.specs.Generated.{state_after, generated_word}
 use Rattle.cox_print.specs.AnswerText.{work_text}
-use Rattle.cox_replies.specs.Limits.{Limits}
+use Rattle.cox_replies.specs.declared.limits.Limits.{Limits}
 use Rattle.cox_replies.specs.Listed.{IsOfRow}
 use Rattle.cox_replies.specs.Question.{Question, IsRefused, asks}
 use Rattle.cox_replies.specs.RowReply.{RefusesRow, coefficients_to}

@@ -17,7 +17,7 @@ ghost use Rattle.cox_certtext.specs.declared.limits.TheConstants.{MAX_CHECKED_CO
 ghost use Rattle.cox_rows.specs.Beyond.{IsBeyond, NeedsBeyond};
 ghost use Rattle.cox_rows.specs.Holding.{HasRow};
 ghost use Rattle.cox_certtext.specs.CertificateParts.{certificate_head, certificate_foot};
-ghost use Rattle.cox_replies.specs.Limits.{Limits};
+ghost use Rattle.cox_replies.specs.declared.limits.Limits.{Limits};
 ghost use Rattle.cox_replies.specs.Question.{IsRefused};
 ghost use Rattle.cox_replies.specs.RowReply.{RefusesRow, pairs_text};
 ghost use Rattle.cox_replies.specs.CertReply.{RefusesListedOr, RefusesCert, IsCertText};

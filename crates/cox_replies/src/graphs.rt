@@ -13,7 +13,7 @@ ghost use Rattle.cox_print.specs.MemberText.{member_text};
 ghost use Rattle.cox_wgraph.specs.Listing.{Vertex, AreJoined, AreVertices};
 ghost use Rattle.cox_wgraph.specs.NumberedEdges.{joined_of};
 ghost use Rattle.cox_cells.specs.NumberedCells.{lists_of, words_of};
-ghost use Rattle.cox_replies.specs.Limits.{Limits};
+ghost use Rattle.cox_replies.specs.declared.limits.Limits.{Limits};
 ghost use Rattle.cox_replies.specs.GroupReply.{IsGraphText, IsCellsText, group_question, vertex_text};
 ghost use Rattle.cox_replies.specs.Putting.{PutsSome};
 

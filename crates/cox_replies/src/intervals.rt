@@ -9,17 +9,16 @@ ghost use Rattle.cox_base.specs.SortedList.{IsListOf};
 ghost use Rattle.cox_base.specs.Interval.{IsBetween, IsCoatom, count_of_length};
 ghost use Rattle.cox_poly.specs.Puts.{Puts};
 ghost use Rattle.cox_print.specs.AnswerText.{elements_text};
-ghost use Rattle.cox_replies.specs.SessionLimits.{limits_of};
 ghost use Rattle.cox_replies.specs.InquiryQuestion.{counts_text};
 ghost use Rattle.cox_replies.specs.Listed.{RefusesLargeOr, IsOfList};
 ghost use Rattle.cox_replies.specs.Putting.{PutsSome, PutsUnless, GivesInterval, words_at};
 
+use crate::limits::Limits;
 use crate::unanswered::{Unanswered, unrefused};
 use cox_base::{MAX_LETTERS, MAX_RANK, Word};
 use cox_command::Refusal;
 use cox_context::{Context, ContextFault};
 use cox_minroots::RootTable;
-use cox_options::Options;
 use cox_print::{NoMemory, put_count, put_next_element, put_numbers};
 use std::alloc::Global;
 
@@ -30,17 +29,17 @@ const LENGTHS: usize = MAX_LETTERS + 1;
 pub fn put_interval(
     out: &mut Vec<u8>,
     table: &RootTable,
-    options: Options,
+    limits: Limits,
     y: &Word,
     w: &Word,
 ) -> Result<(), Unanswered>
     requires first { IsWord table.now.rank y.now.items }
     requires second { IsWord table.now.rank w.now.items }
-    ensures { PutsUnless result (RefusesLargeOr (limits_of options) (integer_matrix table.now) w.now.items ⊥)
+    ensures { PutsUnless result (RefusesLargeOr limits (integer_matrix table.now) w.now.items ⊥)
         (IsOfList (IsBetween (integer_matrix table.now) y.now.items w.now.items) (elements_text table.now.rank))
         out.old.items out.new.items }
 {
-    let context = interval_of(*out.allocator(), table, options, w)?;
+    let context = interval_of(*out.allocator(), table, limits, w)?;
     unrefused(put_between(out, table, &context, y))
 }
 
@@ -48,14 +47,14 @@ pub fn put_interval(
 pub fn put_coatoms(
     out: &mut Vec<u8>,
     table: &RootTable,
-    options: Options,
+    limits: Limits,
     w: &Word,
 ) -> Result<(), Unanswered>
     requires word { IsWord table.now.rank w.now.items }
-    ensures { PutsUnless result (RefusesLargeOr (limits_of options) (integer_matrix table.now) w.now.items ⊥)
+    ensures { PutsUnless result (RefusesLargeOr limits (integer_matrix table.now) w.now.items ⊥)
         (IsOfList (IsCoatom (integer_matrix table.now) w.now.items) (elements_text table.now.rank)) out.old.items out.new.items }
 {
-    let context = interval_of(*out.allocator(), table, options, w)?;
+    let context = interval_of(*out.allocator(), table, limits, w)?;
     unrefused(put_shorter(out, &context, table.length(w)))
 }
 
@@ -63,35 +62,35 @@ pub fn put_coatoms(
 pub fn put_betti(
     out: &mut Vec<u8>,
     table: &RootTable,
-    options: Options,
+    limits: Limits,
     w: &Word,
 ) -> Result<(), Unanswered>
     requires word { IsWord table.now.rank w.now.items }
-    ensures { PutsUnless result (RefusesLargeOr (limits_of options) (integer_matrix table.now) w.now.items ⊥)
+    ensures { PutsUnless result (RefusesLargeOr limits (integer_matrix table.now) w.now.items ⊥)
         (IsOfList (IsInInterval (integer_matrix table.now) w.now.items) (counts_text (integer_matrix table.now) w.now.items))
         out.old.items out.new.items }
 {
     prove!(w.len() <= MAX_LETTERS);
-    let context = interval_of(*out.allocator(), table, options, w)?;
+    let context = interval_of(*out.allocator(), table, limits, w)?;
     unrefused(put_counts(out, &context, table.length(w)))
 }
 
-/// The interval from the identity to w. It is refused where it has more members than the options admit.
+/// The interval from the identity to w. It is refused where it has more members than the limits admit.
 pub fn interval_of(
     alloc: Global,
     table: &RootTable,
-    options: Options,
+    limits: Limits,
     w: &Word,
 ) -> Result<Context, Unanswered>
     requires word { IsWord table.now.rank w.now.items }
     ensures matrix { IfOk result (λ context. context.matrix ≡ table.now) }
-    ensures few { IfOk result (λ context. length context.members ≤ options.context) }
-    ensures members { GivesInterval result (limits_of options) (integer_matrix table.now) w.now.items }
+    ensures few { IfOk result (λ context. length context.members ≤ limits.context) }
+    ensures members { GivesInterval result limits (integer_matrix table.now) w.now.items }
     ensures group { IsCoxeterMatrix table.now }
 {
     prove!(table.group().rank() as usize <= MAX_RANK);
     prove!(w.len() <= MAX_LETTERS);
-    match Context::of_interval(alloc, table, w, options.context()) {
+    match Context::of_interval(alloc, table, w, limits.context()) {
         Ok(context) => Ok(context),
         Err(ContextFault::NoMemory) => Err(Unanswered::NoMemory),
         Err(ContextFault::Size { .. }) => Err(Unanswered::Refused(Refusal::LargeInterval)),

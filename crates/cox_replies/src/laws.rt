@@ -13,7 +13,7 @@ ghost use Rattle.cox_command.specs.declared.inquiry.Inquiry.{Inquiry};
 ghost use Rattle.cox_replies.specs.Answerable.{HasOneText, IsAnswerable};
 ghost use Rattle.cox_replies.specs.GroupReply.{RefusesGroupRows};
 ghost use Rattle.cox_replies.specs.InquiryQuestion.{question_of};
-ghost use Rattle.cox_replies.specs.Limits.{Limits};
+ghost use Rattle.cox_replies.specs.declared.limits.Limits.{Limits};
 ghost use Rattle.cox_replies.specs.ModuleReply.{IsModuleText, module_text};
 ghost use Rattle.cox_replies.specs.Question.{IsRefused};
 

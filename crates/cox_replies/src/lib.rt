@@ -7,6 +7,7 @@
 //! the commands on a whole group are for contexts whose members are in order.
 //!
 //! - `unanswered`: why a command gets no answer
+//! - `limits`: what a session may use at most
 //! - `intervals`: Bruhat intervals
 //! - `polynomials`: R-polynomials
 //! - `rows`: the answers from the row of an element, and single polynomials of it, and mu
@@ -23,6 +24,7 @@ mod certificates;
 mod graphs;
 mod intervals;
 pub mod laws;
+mod limits;
 mod modules;
 mod order;
 mod pairs;
@@ -34,6 +36,7 @@ mod unanswered;
 pub use certificates::{listed_below, put_cert_of};
 pub use graphs::put_group_of;
 pub use intervals::{interval_of, put_betti, put_coatoms, put_interval};
+pub use limits::Limits;
 pub use modules::put_module_of;
 pub use polynomials::put_rpol;
 pub use rows::{put_entry_of, put_row_of};

@@ -11,7 +11,7 @@ use cox_command::Refusal;
 use cox_minroots::RootTable;
 use cox_rpoly::{RFault, r};
 
-/// Puts the R-polynomial of y and w. It is refused where y ≤ w and their lengths differ by too much, whatever the options.
+/// Puts the R-polynomial of y and w. It is refused where y ≤ w and their lengths differ by too much, whatever the limits.
 pub fn put_rpol(out: &mut Vec<u8>, table: &RootTable, y: &Word, w: &Word) -> Result<(), Unanswered>
     requires first { IsWord table.now.rank y.now.items }
     requires second { IsWord table.now.rank w.now.items }

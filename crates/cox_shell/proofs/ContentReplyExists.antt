@@ -21,7 +21,7 @@ use Rattle.cox_command.specs.declared.inquiry.Inquiry.{Inquiry}
 use Rattle.cox_command.specs.declared.inquiry.Inquiry.TheVariants as inquiry
 use Rattle.cox_small.proofs.Counting.{not_both}
 use Rattle.cox_small.proofs.Deciding.{HasMoreSmallRoots-decided}
-use Rattle.cox_replies.specs.Limits.{Limits}
+use Rattle.cox_replies.specs.declared.limits.Limits.{Limits}
 use Rattle.cox_shell.specs.Reply.{State, Reply, rank_of, refusal, silence}
 use Rattle.cox_shell.specs.CommandReply.{IsDecided}
 use Rattle.cox_replies.specs.InquiryQuestion.{question_of}

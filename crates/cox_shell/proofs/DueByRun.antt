@@ -12,7 +12,7 @@ use Rattle.cox_outside.specs.Reader.{Reader}
 use Rattle.cox_outside.specs.Outlet.{Outlet, Writes}
 use Rattle.cox_outside.proofs.Known.{prepend_known-none, Writes-none, Writes-append}
 use Rattle.cox_options.specs.Arguments.{is_refused, IsTaken, IsUsage}
-use Rattle.cox_replies.specs.Limits.{Limits}
+use Rattle.cox_replies.specs.declared.limits.Limits.{Limits}
 use Rattle.cox_shell.specs.Reply.{State, Reply, OpenList, texts}
 use Rattle.cox_shell.specs.Answer.{script_lines, bytes_of}
 use Rattle.cox_shell.specs.Run.{Stand, stand}

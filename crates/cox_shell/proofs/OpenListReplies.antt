@@ -131,7 +131,7 @@ none_open (Some list) e = absurd (cc e)
 
 -- the list of a session's state is its list
 pub list_of : (stage : Stage) (list : Option OpenList) (state : State) → state_of stage list ≡ state → list ≡ state.list
-list_of (Opened options) list state is = ap (λ (s : State). s.list) is
+list_of (Opened limits) list state is = ap (λ (s : State). s.list) is
 list_of (Set work) list state is = ap (λ (s : State). s.list) is
 
 -- the reply to the end of the list is that to the end of reading

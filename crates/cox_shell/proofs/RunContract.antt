@@ -11,7 +11,7 @@ use Rattle.cox_outside.specs.Reader.{Reader}
 use Rattle.cox_options.specs.Arguments.{is_refused, IsTaken}
 use Rattle.cox_shell.specs.declared.status.Status.{Status}
 use Rattle.cox_shell.specs.declared.status.Status.TheVariants.{Done, Refused, Usage, ReadFault, WriteFault, NoMemory, InputLimit}
-use Rattle.cox_replies.specs.Limits.{Limits}
+use Rattle.cox_replies.specs.declared.limits.Limits.{Limits}
 use Rattle.cox_shell.specs.Reply.{OpenList, State, Reply, texts}
 use Rattle.cox_shell.specs.Run.{stand}
 use Rattle.cox_shell.specs.Status.{is_read_fault, is_write_fault}

@@ -1,5 +1,5 @@
 -- Sessions may be shared by threads.
-use denote.Param.Send.{IsSync, view_sync, recorded_sync, struct_sync}
+use denote.Param.Send.{IsSync, view_sync, recorded_sync, struct_sync, sendable}
 use denote.Struct.Declared.{shape}
 use Rattle.std.proofs.Crossing.{crosses}
 use Rattle.std.proofs.option.Option.TheSendSync as Option
@@ -22,4 +22,5 @@ JobList-sync = view_sync JobListInside.the_row _ _ _ _
 pub Session-sync : IsSync Session.the_row
 Session-sync = view_sync SessionInside.the_row _ _ _ _
     (recorded_sync SessionInside.the_field.row _ _ SessionInside.the_type.to_one
-    (struct_sync (shape SessionInside.the_type) (Stage.the_field_sync, (Option.the_field_sync JobList.the_row JobList-sync, tt))))
+    (struct_sync (shape SessionInside.the_type)
+    (Stage.the_field_sync, (Option.the_field_sync JobList.the_row JobList-sync, (search sendable, tt)))))

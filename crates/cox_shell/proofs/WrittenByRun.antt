@@ -17,14 +17,13 @@ use Rattle.cox_outside.specs.Supply.{Supply}
 use Rattle.cox_outside.specs.Reader.{Reader, fresh_reader}
 use Rattle.cox_outside.specs.Outlet.{Outlet, Writes, IsPrefix}
 use Rattle.cox_outside.proofs.Known.{prepend_known-none, prepend_known-append, Writes-append}
-use Rattle.cox_options.specs.Arguments.{given_number, IsTaken}
+use Rattle.cox_options.specs.Arguments.{given_number}
 use Rattle.cox_options.specs.declared.options.Options.{Options}
 use Rattle.cox_shell.specs.declared.status.Status.{Status}
 use Rattle.cox_shell.specs.declared.status.Status.TheVariants.{Done, Refused, Usage, ReadFault, WriteFault, NoMemory, InputLimit}
-use Rattle.cox_replies.specs.Limits.{Limits}
+use Rattle.cox_replies.specs.declared.limits.Limits.{Limits}
 use Rattle.cox_shell.specs.Reply.{State, Reply, OpenList, opening, texts}
 use Rattle.cox_shell.specs.Blocks.{IsListReply}
-use Rattle.cox_replies.specs.SessionLimits.{limits_of}
 use Rattle.cox_shell.specs.Answer.{AreReplies, AreAllReplies, AreScriptReplies, IsClosing, state_behind, has_refusal, has_quit}
 use Rattle.cox_shell.specs.Answer.{script_lines, bytes_of}
 use Rattle.cox_shell.specs.Run.{Stand, stand}
@@ -32,7 +31,7 @@ use Rattle.cox_shell.specs.Outcome.{Runs, WritesPrefix, WritesAll, StopsThere, I
 use Rattle.cox_shell.specs.Outcome.{EndsReading}
 use Rattle.cox_shell.specs.Closing.{HasClosed}
 use Rattle.cox_shell.specs.Top.{given_limits, StopsReading, IsReadWhole, AnswersWhole, AnswersGiven, AreDue, AreDueAtEnd}
-use Rattle.cox_shell.specs.GivenLimits.{GiveLimits}
+use Rattle.cox_shell.specs.GivenOptions.{GiveOptions}
 use Rattle.cox_shell.proofs.ListReplies.{IsListReply-closed}
 use Rattle.cox_shell.proofs.KnownValues.{IfSome-unmade}
 
@@ -41,20 +40,21 @@ coefficient-given : (given : Option ℕ) (coef : ℤ) → option_map pos given �
 coefficient-given None coef e = absurd (cc e)
 coefficient-given (Some n) coef e = let same : pos n ≡ coef = cc e in rw (← same) refl
 
--- the limits of the options that arguments give are those that the arguments give
-limits-given : (options : Options) (arguments : List (List ℕ)) → given_number (codes "context") arguments ≡ Some options.context
-    → option_map pos (given_number (codes "coef") arguments) ≡ Some options.coef
-    → given_number (codes "roots") arguments ≡ Some options.roots → limits_of options ≡ given_limits arguments
-limits-given options arguments context coef roots =
-    rw (context, roots, coefficient-given (given_number (codes "coef") arguments) options.coef coef) refl
-
--- arguments that are taken give them
-pub options-given : (options : Options) (arguments : List (List ℕ)) → IsTaken arguments
-    → given_number (codes "context") arguments ≡ Some options.context
-    → option_map pos (given_number (codes "coef") arguments) ≡ Some options.coef
-    → given_number (codes "roots") arguments ≡ Some options.roots → GiveLimits arguments (limits_of options)
-options-given options arguments taken context coef roots =
-    record { taken = taken; limits_are = limits-given options arguments context coef roots }
+-- a session with the options that arguments give opens with the limits that they give
+pub opening-given : (options : Options) (arguments : List (List ℕ)) (state : State) → GiveOptions arguments options
+    → state ≡ opening state.limits → state.limits.context ≡ options.context → pos state.limits.coefficient ≡ options.coef
+    → state.limits.roots ≡ options.roots → state ≡ opening (given_limits arguments)
+opening-given options arguments state give opens context coefficient roots =
+    let limits : state.limits ≡ given_limits arguments =
+    rw (
+      give.context,
+      give.roots,
+      coefficient-given (given_number (codes "coef") arguments) options.coef give.coef,
+      ← context,
+      ← coefficient,
+      ← roots,
+    ) refl in
+    opens ∙ ap opening limits
 
 -- where a run begins
 abbrev pub beginning : Limits → Option (List ℕ) → Outlet → Stand

@@ -8,7 +8,7 @@ use Rattle.cox_command.specs.declared.command.Command.{Command}
 use Rattle.cox_command.specs.declared.command.Command.TheVariants.{Nothing, Quit, Group, Jobs, Ask}
 use Rattle.cox_small.specs.SmallRoots.{HasMoreSmallRoots}
 use Rattle.cox_command.specs.declared.inquiry.Inquiry.{Inquiry}
-use Rattle.cox_replies.specs.Limits.{Limits}
+use Rattle.cox_replies.specs.declared.limits.Limits.{Limits}
 use Rattle.cox_shell.specs.Reply.{State, Reply, refusal, silence}
 use Rattle.cox_replies.specs.Question.{Question, IsRefused}
 use Rattle.cox_replies.specs.InquiryQuestion.{question_of}

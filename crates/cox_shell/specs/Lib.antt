@@ -23,4 +23,4 @@ pub mod Closing
 pub mod Top
 pub mod Reading
 pub mod WholeRun
-pub mod GivenLimits
+pub mod GivenOptions

@@ -6,7 +6,7 @@ use Rattle.cox_base.specs.Matrix.{CoxeterMatrix}
 use Rattle.cox_command.specs.declared.refusal.Refusal.{Refusal}
 use Rattle.cox_command.specs.RefusalNumber.{refusal_number}
 use Rattle.cox_print.specs.AnswerText.{refusal_text}
-use Rattle.cox_replies.specs.Limits.{Limits}
+use Rattle.cox_replies.specs.declared.limits.Limits.{Limits}
 
 -- a line that is kept in a list: its content, or why its bytes are refused
 pub record Kept : Type 0 where

@@ -1,6 +1,6 @@
 -- The text that answers a script.
 use Rattle.std.specs.Prelude.{◌≡◌, ℕ, List}
-use Rattle.cox_replies.specs.Limits.{Limits}
+use Rattle.cox_replies.specs.declared.limits.Limits.{Limits}
 use Rattle.cox_shell.specs.Reply.{Reply, texts}
 use Rattle.cox_shell.specs.Answer.{AreScriptReplies}
 

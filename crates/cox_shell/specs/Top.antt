@@ -7,7 +7,7 @@ use Rattle.cox_outside.specs.declared.limits.TheConstants.{INPUT_LIMIT, CHUNK_SI
 use Rattle.cox_tokens.specs.Line.{line_feed, ended_lines}
 use Rattle.cox_outside.specs.Outlet.{Outlet, Writes, IsPrefix}
 use Rattle.cox_options.specs.Arguments.{is_refused, given_number}
-use Rattle.cox_replies.specs.Limits.{Limits}
+use Rattle.cox_replies.specs.declared.limits.Limits.{Limits}
 use Rattle.cox_shell.specs.Reply.{Reply, opening, texts}
 use Rattle.cox_shell.specs.Answer.{AreReplies, AreAllReplies, AreScriptReplies, state_behind, has_refusal, has_quit, script_lines}
 use Rattle.cox_shell.specs.Answer.{bytes_of}

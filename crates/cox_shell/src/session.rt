@@ -3,6 +3,7 @@
 //! - `commands`: what a line is answered where no list is open
 //! - `lists`: lines where a list is open, and its end
 //! - `blocks`: what the lines of its blocks are answered
+ghost use Rattle.std.specs.Prelude.{◌≡◌, pos};
 
 mod blocks;
 mod commands;
@@ -18,6 +19,7 @@ use cox_base::MAX_RANK;
 use cox_command::Refusal;
 use cox_options::Options;
 use cox_outside::Gate;
+use cox_replies::Limits;
 use cox_rows::Rows;
 use std::alloc::{AllocError, Global};
 use std::marker::Model;
@@ -62,9 +64,9 @@ pub enum Given<'a> {
 /// What a session works with.
 #[derive(Drop)]
 pub enum Stage {
-    /// Its options, while no group is set.
-    Opened(Options),
-    /// The group that is set, with the options.
+    /// Its limits, while no group is set.
+    Opened(Limits),
+    /// The group that is set, with the limits.
     Set(Workspace),
 }
 
@@ -78,15 +80,20 @@ pub enum Stage {
 pub struct Session {
     stage: Stage,
     list: Option<JobList>,
+    // How many workers make rows and answer blocks of lists, at least 1. No answer depends on it.
+    workers: u32,
 }
 
 impl Model for Session {
+    ghost use Rattle.std.specs.Prelude.{◌≤◌};
     ghost use Rattle.cox_shell.specs.Reply.{State};
     ghost use Rattle.cox_shell.specs.SessionState.{state_of};
 
     ghost Value = { State };
 
     ghost view = { λ s. state_of s.stage s.list };
+
+    ghost invariant = { λ s. 1 ≤ s.workers };
 }
 
 impl Session {
@@ -94,10 +101,9 @@ impl Session {
     ghost use Rattle.cox_row.specs.Rising.{AreWithin};
     ghost use Rattle.cox_answers.specs.Kept.{IsMore};
     ghost use Rattle.std.specs.Prelude.{◌≡◌, ◌<◌, ◌≤◌, ◌⊎◌, ◌^◌, false, length, None, is_some, IsSomeAnd, IfOk, OnErr};
-    ghost use Rattle.std.specs.Prelude.{IfSome, MatchOption};
+    ghost use Rattle.std.specs.Prelude.{IfSome, MatchOption, pos};
     ghost use Rattle.cox_base.specs.Admissible.{IsCoxeterMatrix};
     ghost use Rattle.cox_shell.specs.Reply.{Reply, opening, closed, rank_of};
-    ghost use Rattle.cox_replies.specs.SessionLimits.{limits_of};
     ghost use Rattle.cox_shell.specs.OpenLists.{is_long};
     ghost use Rattle.cox_shell.specs.ListReply.{IsReplyTo};
     ghost use Rattle.cox_shell.specs.Blocks.{IsListReply};
@@ -109,11 +115,15 @@ impl Session {
 
     /// A session with these options, and no group.
     pub fn new(options: Options) -> Session
-        ensures { result ≡ opening (limits_of options) }
+        ensures opens { result ≡ opening result.limits }
+        ensures context { result.limits.context ≡ options.context }
+        ensures coefficient { pos result.limits.coefficient ≡ options.coef }
+        ensures roots { result.limits.roots ≡ options.roots }
     {
         Session {
-            stage: Stage::Opened(options),
+            stage: Stage::Opened(limits_of(options)),
             list: None,
+            workers: options.workers(),
         }
     }
 
@@ -146,7 +156,7 @@ impl Session {
         ensures err { OnErr result ((reply : Reply) × IsReplyTo self.old line.now reply
             × SaysPrefix reply self.old self.new out.old.items out.new.items) }
     {
-        let workers = self.options().workers();
+        let workers = self.workers();
         if workers == 1 {
             return self.answer(line, out);
         }
@@ -223,7 +233,7 @@ impl Session {
         ensures err { OnErr result ((reply : Reply) × IsListReply self.now blocks.now reply
             × PutsPrefix reply.text out.old.items out.new.items) }
     {
-        let workers = self.options().workers();
+        let workers = self.workers();
         if workers == 1 {
             return self.answer_jobs_one(blocks, out);
         }
@@ -313,12 +323,17 @@ impl Session {
         ensures { IfOk result (λ own. own ≡ closed self.now) }
     {
         match &self.stage {
-            Stage::Opened(options) => Ok(Session::new(*options)),
+            Stage::Opened(limits) => Ok(Session {
+                stage: Stage::Opened(*limits),
+                list: None,
+                workers: self.workers,
+            }),
             Stage::Set(work) => {
                 let own = work.fresh()?;
                 Ok(Session {
                     stage: Stage::Set(own),
                     list: None,
+                    workers: self.workers,
                 })
             }
         }
@@ -344,13 +359,29 @@ impl Session {
         }
     }
 
-    /// The options.
-    fn options(&self) -> Options
-        ensures { limits_of result ≡ self.now.limits }
+    /// How many workers make rows and answer blocks of lists.
+    fn workers(&self) -> u32
+        ensures { 1 ≤ result }
+    {
+        self.workers
+    }
+
+    /// The limits.
+    fn limits(&self) -> Limits
+        ensures { result ≡ self.now.limits }
     {
         match &self.stage {
-            Stage::Opened(options) => *options,
-            Stage::Set(work) => work.options(),
+            Stage::Opened(limits) => *limits,
+            Stage::Set(work) => work.limits(),
         }
     }
+}
+
+/// The limits that options give.
+fn limits_of(options: Options) -> Limits
+    ensures context { result.context ≡ options.context }
+    ensures coefficient { pos result.coefficient ≡ options.coef }
+    ensures roots { result.roots ≡ options.roots }
+{
+    Limits::new(options.context(), options.coef() as u64, options.roots())
 }

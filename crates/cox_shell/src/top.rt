@@ -7,9 +7,8 @@ ghost use Rattle.cox_answers.specs.Kept.{IsMore};
 ghost use Rattle.cox_options.specs.Arguments.{IsUsage, is_refused};
 ghost use Rattle.cox_options.specs.declared.reading.OptionFault.TheVariants.{Usage};
 ghost use Rattle.cox_outside.specs.Supply.{Supply};
-ghost use Rattle.cox_replies.specs.SessionLimits.{limits_of};
 ghost use Rattle.cox_shell.specs.Top.{argument_texts};
-ghost use Rattle.cox_shell.specs.GivenLimits.{GiveLimits};
+ghost use Rattle.cox_shell.specs.GivenOptions.{GiveOptions};
 ghost use Rattle.cox_shell.specs.Reading.{IsReadBy};
 ghost use Rattle.cox_shell.specs.WholeRun.{IsRun};
 ghost use Rattle.cox_shell.specs.OpenLists.{is_long};
@@ -119,9 +118,9 @@ fn run_with<R: Threads + Wait + Sync, S: Source, K: Sink, G: Gate + Sync>(
     sink: &mut K,
     gate: &G,
 ) -> Status
-    ensures run { (arguments : List (List ℕ)) → GiveLimits arguments (limits_of options)
+    ensures run { (arguments : List (List ℕ)) → GiveOptions arguments options
         → IsRun result arguments (S.seen source.old) (S.seen source.new) (K.seen sink.old) (K.seen sink.new) }
-    ensures reading { (arguments : List (List ℕ)) → GiveLimits arguments (limits_of options)
+    ensures reading { (arguments : List (List ℕ)) → GiveOptions arguments options
         → IsReadBy result arguments (S.seen source.old) (S.seen source.new) }
 {
     let workers = options.workers();
@@ -152,9 +151,9 @@ fn run_session<M: BlockAnswerer, S: Source, K: Sink>(
     sink: &mut K,
 ) -> Status
     requires { M.ready maker.now }
-    ensures run { (arguments : List (List ℕ)) → GiveLimits arguments (limits_of options)
+    ensures run { (arguments : List (List ℕ)) → GiveOptions arguments options
         → IsRun result arguments (S.seen source.old) (S.seen source.new) (K.seen sink.old) (K.seen sink.new) }
-    ensures reading { (arguments : List (List ℕ)) → GiveLimits arguments (limits_of options)
+    ensures reading { (arguments : List (List ℕ)) → GiveOptions arguments options
         → IsReadBy result arguments (S.seen source.old) (S.seen source.new) }
 {
     let Ok(mut reader) = LineReader::new(alloc) else {

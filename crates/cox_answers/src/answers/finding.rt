@@ -4,7 +4,6 @@ ghost use Rattle.cox_base.specs.Matrix.{IsWord};
 ghost use Rattle.cox_base.specs.Admissible.{IsCoxeterMatrix};
 ghost use Rattle.cox_base.specs.IntegerMatrix.{integer_matrix};
 ghost use Rattle.cox_answers.specs.Kept.{IsSameWorkspace};
-ghost use Rattle.cox_replies.specs.SessionLimits.{limits_of};
 ghost use Rattle.cox_replies.specs.CertReply.{RefusesCert};
 ghost use Rattle.cox_replies.specs.InverseReply.{RefusesInverse};
 ghost use Rattle.cox_answers.specs.Needs.{IsOver, need_refuses, IsFound, IsRowOf, HasBetween, HasGroup, Makes};
@@ -64,7 +63,7 @@ impl Workspace {
     ) -> Result<Found, Unanswered>
         requires words { IsOver self.old.table.rank need.now }
         requires ready { M.ready maker.now }
-        ensures made { Makes result (need_refuses need.now (limits_of self.old.options) self.old.table) (IsFound self.new need.now) }
+        ensures made { Makes result (need_refuses need.now self.old.limits self.old.table) (IsFound self.new need.now) }
         ensures same { IsSameWorkspace self.old self.new }
     {
         match *need {
@@ -91,7 +90,7 @@ impl Workspace {
     ) -> Result<u32, Unanswered>
         requires word { IsWord self.old.table.rank w.now.items }
         requires ready { M.ready maker.now }
-        ensures made { Makes result (RefusesCert (limits_of self.old.options) (integer_matrix self.old.table) w.now.items)
+        ensures made { Makes result (RefusesCert self.old.limits (integer_matrix self.old.table) w.now.items)
             (IsRowOf self.new w.now.items) }
         ensures same { IsSameWorkspace self.old self.new }
         ensures group { IsCoxeterMatrix self.old.table }
@@ -114,7 +113,7 @@ impl Workspace {
         requires first { IsWord self.old.table.rank y.now.items }
         requires second { IsWord self.old.table.rank w.now.items }
         requires ready { M.ready maker.now }
-        ensures made { Makes result (RefusesInverse (limits_of self.old.options) (integer_matrix self.old.table) y.now.items w.now.items)
+        ensures made { Makes result (RefusesInverse self.old.limits (integer_matrix self.old.table) y.now.items w.now.items)
             (HasBetween self.new y.now.items w.now.items) }
         ensures same { IsSameWorkspace self.old self.new }
         ensures group { IsCoxeterMatrix self.old.table }

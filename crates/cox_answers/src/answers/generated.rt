@@ -10,7 +10,6 @@ ghost use Rattle.cox_context.specs.declared.members.TheConstants.{MAX_MEMBERS};
 ghost use Rattle.cox_command.specs.ParseContract.{AreWorkNumbers};
 ghost use Rattle.cox_rows.specs.Holding.{HasRow};
 ghost use Rattle.cox_answers.specs.Kept.{IsSameWorkspace};
-ghost use Rattle.cox_replies.specs.SessionLimits.{limits_of};
 ghost use Rattle.cox_replies.specs.RowReply.{RefusesRow};
 ghost use Rattle.cox_replies.specs.WorkReply.{generated_words, RefusesWork};
 ghost use Rattle.cox_replies.specs.Totals.{AreTotalsOf, AreTotals};
@@ -59,7 +58,7 @@ impl Workspace {
     ) -> Result<RowTotals, Unanswered>
         requires numbers { AreWorkNumbers start count }
         requires ready { M.ready maker.now }
-        ensures totals { SumsUp result (RefusesWork (limits_of self.old.options) (integer_matrix self.old.table)
+        ensures totals { SumsUp result (RefusesWork self.old.limits (integer_matrix self.old.table)
             (generated_words self.old.table.rank count start))
             (AreTotals (integer_matrix self.old.table) (generated_words self.old.table.rank count start)) }
         ensures same { IsSameWorkspace self.old self.new }
@@ -86,7 +85,7 @@ impl Workspace {
     ) -> Result<RowTotals, Unanswered>
         requires word { IsWord self.old.table.rank w.now.items }
         requires ready { M.ready maker.now }
-        ensures totals { SumsUp result (RefusesRow (limits_of self.old.options) (integer_matrix self.old.table) w.now.items)
+        ensures totals { SumsUp result (RefusesRow self.old.limits (integer_matrix self.old.table) w.now.items)
             (AreTotalsOf (integer_matrix self.old.table) w.now.items) }
         ensures few { IfOk result (λ t. t.entries ≤ MAX_MEMBERS) }
         ensures same { IsSameWorkspace self.old self.new }

@@ -6,7 +6,6 @@ ghost use Rattle.cox_base.specs.Matrix.{IsWord};
 ghost use Rattle.cox_base.specs.Bruhat.{IsBelow};
 ghost use Rattle.cox_base.specs.Members.{IsInInterval};
 ghost use Rattle.cox_base.specs.SortedList.{HasMoreThan};
-ghost use Rattle.cox_replies.specs.SessionLimits.{limits_of};
 ghost use Rattle.cox_replies.specs.GroupReply.{RefusesGroupRows};
 ghost use Rattle.cox_replies.specs.Listed.{RefusesLargeOr};
 ghost use Rattle.cox_replies.specs.RowReply.{RefusesRow};
@@ -36,8 +35,8 @@ impl Workspace {
         requires word { IsWord self.old.table.rank w.now.items }
         requires ready { M.ready maker.now }
         ensures same { IsSameWorkspace self.old self.new }
-        ensures kept { AreKept self.old.table (limits_of self.old.options) self.new.rows }
-        ensures row { Keeps result (RefusesRow (limits_of self.old.options) (integer_matrix self.old.table) w.now.items)
+        ensures kept { AreKept self.old.table self.old.limits self.new.rows }
+        ensures row { Keeps result (RefusesRow self.old.limits (integer_matrix self.old.table) w.now.items)
             (HoldsRow (integer_matrix self.old.table) w.now.items) self.new.rows }
         ensures group { IsCoxeterMatrix self.old.table }
     {
@@ -54,13 +53,13 @@ impl Workspace {
     ) -> Result<u32, Unanswered>
         requires group { IsCoxeterMatrix self.old.table }
         requires member { IsSomeAnd self.old.rows (λ rows. i < length rows.elements.members) }
-        requires kept { AreKept self.old.table (limits_of self.old.options) self.old.rows }
+        requires kept { AreKept self.old.table self.old.limits self.old.rows }
         requires ready { M.ready maker.now }
         ensures same { IsSameWorkspace self.old self.new }
-        ensures kept { AreKept self.old.table (limits_of self.old.options) self.new.rows }
+        ensures kept { AreKept self.old.table self.old.limits self.new.rows }
         ensures row { (w : List ℕ) → IsSomeAnd self.old.rows (HoldsElement (integer_matrix self.old.table) w i)
-            → (HasMoreThan (limits_of self.old.options).context (IsInInterval (integer_matrix self.old.table) w) → ⊥)
-            → Keeps result (RefusesRow (limits_of self.old.options) (integer_matrix self.old.table) w)
+            → (HasMoreThan self.old.limits.context (IsInInterval (integer_matrix self.old.table) w) → ⊥)
+            → Keeps result (RefusesRow self.old.limits (integer_matrix self.old.table) w)
             (HoldsRow (integer_matrix self.old.table) w) self.new.rows }
         ensures more { AreMore self.old.rows self.new.rows }
         ensures known { self.new.whole ≡ self.old.whole }
@@ -83,13 +82,13 @@ impl Workspace {
     ) -> Result<(), Unanswered>
         requires ready { M.ready maker.now }
         ensures same { IsSameWorkspace self.old self.new }
-        ensures kept { AreKept self.old.table (limits_of self.old.options) self.new.rows }
-        ensures rows { Keeps result (RefusesGroupRows (limits_of self.old.options) (integer_matrix self.old.table))
+        ensures kept { AreKept self.old.table self.old.limits self.new.rows }
+        ensures rows { Keeps result (RefusesGroupRows self.old.limits (integer_matrix self.old.table))
             (λ _ rows. HoldsAll (integer_matrix self.old.table) rows) self.new.rows }
         ensures known { IsSomeAnd self.old.rows (HoldsGroup (integer_matrix self.old.table)) → self.new.whole ≡ self.old.whole }
         ensures group { IsCoxeterMatrix self.old.table }
     {
-        keep_elements(alloc, &mut self.kept, self.roots.table(), self.options)?;
+        keep_elements(alloc, &mut self.kept, self.roots.table(), self.limits)?;
         let Some(rows) = self.kept.take() else {
             unreachable!();
         };
@@ -115,8 +114,8 @@ impl Workspace {
         requires ends { IsSomeAnd self.old.rows (HoldsEnds (integer_matrix self.old.table) y.now.items w.now.items ends) }
         requires ready { M.ready maker.now }
         ensures same { IsSameWorkspace self.old self.new }
-        ensures kept { AreKept self.old.table (limits_of self.old.options) self.new.rows }
-        ensures rows { Keeps result (RefusesBetween (limits_of self.old.options) (integer_matrix self.old.table) y.now.items w.now.items)
+        ensures kept { AreKept self.old.table self.old.limits self.new.rows }
+        ensures rows { Keeps result (RefusesBetween self.old.limits (integer_matrix self.old.table) y.now.items w.now.items)
             (HoldsBetween (integer_matrix self.old.table) y.now.items w.now.items) self.new.rows }
         ensures known { IsLookedFor self.old.whole → self.new.whole ≡ self.old.whole }
         ensures group { IsCoxeterMatrix self.old.table }
@@ -146,10 +145,10 @@ impl Workspace {
         requires ends { IsSomeAnd self.old.rows (HoldsEnds (integer_matrix self.old.table) y.now.items w.now.items ends) }
         requires ready { M.ready maker.now }
         ensures same { IsSameWorkspace self.old self.new }
-        ensures kept { AreKept self.old.table (limits_of self.old.options) self.new.rows }
+        ensures kept { AreKept self.old.table self.old.limits self.new.rows }
         ensures more { AreMore self.old.rows self.new.rows }
         ensures known { self.new.whole ≡ self.old.whole }
-        ensures rows { Keeps result (RefusesBetween (limits_of self.old.options) (integer_matrix self.old.table) y.now.items w.now.items)
+        ensures rows { Keeps result (RefusesBetween self.old.limits (integer_matrix self.old.table) y.now.items w.now.items)
             (HoldsBetween (integer_matrix self.old.table) y.now.items w.now.items) self.new.rows }
     {
         let between = Interval::between(alloc, self.rows().context(), ends.low, ends.high)?;
@@ -178,8 +177,8 @@ impl Workspace {
         requires ends { IsSomeAnd self.old.rows (HoldsEnds (integer_matrix self.old.table) y.now.items w.now.items ends) }
         requires ready { M.ready maker.now }
         ensures same { IsSameWorkspace self.old self.new }
-        ensures kept { AreKept self.old.table (limits_of self.old.options) self.new.rows }
-        ensures interval { Keeps result (RefusesLargeOr (limits_of self.old.options) (integer_matrix self.old.table) w.now.items ⊥)
+        ensures kept { AreKept self.old.table self.old.limits self.new.rows }
+        ensures interval { Keeps result (RefusesLargeOr self.old.limits (integer_matrix self.old.table) w.now.items ⊥)
             (HoldsEnds (integer_matrix self.old.table) y.now.items w.now.items) self.new.rows }
         ensures group { IsCoxeterMatrix self.old.table }
     {

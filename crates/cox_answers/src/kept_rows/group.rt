@@ -8,7 +8,6 @@ ghost use Rattle.cox_base.specs.Members.{IsElement};
 ghost use Rattle.cox_base.specs.SortedList.{IsListOf};
 ghost use Rattle.cox_context.specs.Numbers.{word_at};
 ghost use Rattle.cox_rows.specs.Beyond.{IsBeyond};
-ghost use Rattle.cox_replies.specs.SessionLimits.{limits_of};
 ghost use Rattle.cox_replies.specs.Putting.{Finds};
 ghost use Rattle.cox_answers.specs.GroupSize.{RefusesLargeGroup, GivesGroup};
 ghost use Rattle.cox_answers.specs.Kept.{AreOf, AreKept, HoldsGroup, HoldsAll, Keeps};
@@ -19,8 +18,7 @@ use cox_base::MAX_RANK;
 use cox_command::Refusal;
 use cox_context::{Context, ContextFault};
 use cox_minroots::RootTable;
-use cox_options::Options;
-use cox_replies::Unanswered;
+use cox_replies::{Limits, Unanswered};
 use cox_rows::Rows;
 use std::alloc::Global;
 
@@ -32,11 +30,11 @@ pub fn keep_elements(
     alloc: Global,
     kept: &mut KeptRows,
     table: &RootTable,
-    options: Options,
+    limits: Limits,
 ) -> Result<(), Unanswered>
-    requires kept { AreKept table.now (limits_of options) kept.old.rows }
-    ensures kept { AreKept table.now (limits_of options) kept.new.rows }
-    ensures elements { Keeps result (RefusesLargeGroup (limits_of options) (integer_matrix table.now))
+    requires kept { AreKept table.now limits kept.old.rows }
+    ensures kept { AreKept table.now limits kept.new.rows }
+    ensures elements { Keeps result (RefusesLargeGroup limits (integer_matrix table.now))
         (λ _ rows. HoldsGroup (integer_matrix table.now) rows) kept.new.rows }
     ensures there { IsSomeAnd kept.old.rows (HoldsGroup (integer_matrix table.now)) → kept.new ≡ kept.old }
     ensures unchanged { IfErr result (λ _. kept.new ≡ kept.old) }
@@ -49,7 +47,7 @@ pub fn keep_elements(
             return Ok(());
         }
     }
-    let rows = rows_of_group(alloc, table, options)?;
+    let rows = rows_of_group(alloc, table, limits)?;
     *kept.change() = Some(rows);
     Ok(())
 }
@@ -66,23 +64,23 @@ pub fn holds_group(rows: &Rows) -> bool
     has_all(rows)
 }
 
-/// All elements of the group, with no rows. They are refused if there are more than the options admit.
-fn rows_of_group(alloc: Global, table: &RootTable, options: Options) -> Result<Rows, Unanswered>
-    ensures of { IfOk result (AreOf table.now (limits_of options)) }
-    ensures members { Finds result (RefusesLargeGroup (limits_of options) (integer_matrix table.now))
+/// All elements of the group, with no rows. They are refused if there are more than the limits admit.
+fn rows_of_group(alloc: Global, table: &RootTable, limits: Limits) -> Result<Rows, Unanswered>
+    ensures of { IfOk result (AreOf table.now limits) }
+    ensures members { Finds result (RefusesLargeGroup limits (integer_matrix table.now))
         (HoldsGroup (integer_matrix table.now)) }
 {
-    let context = group_of(alloc, table, options)?;
-    Ok(Rows::new(alloc, context, options.coef())?)
+    let context = group_of(alloc, table, limits)?;
+    Ok(Rows::new(alloc, context, limits.coefficient())?)
 }
 
-/// All elements of the group. They are refused if there are more than the options admit.
-fn group_of(alloc: Global, table: &RootTable, options: Options) -> Result<Context, Unanswered>
+/// All elements of the group. They are refused if there are more than the limits admit.
+fn group_of(alloc: Global, table: &RootTable, limits: Limits) -> Result<Context, Unanswered>
     ensures matrix { IfOk result (λ context. context.matrix ≡ table.now) }
-    ensures few { IfOk result (λ context. length context.members ≤ options.context) }
-    ensures members { GivesGroup result (limits_of options) (integer_matrix table.now) }
+    ensures few { IfOk result (λ context. length context.members ≤ limits.context) }
+    ensures members { GivesGroup result limits (integer_matrix table.now) }
 {
-    match Context::of_group(alloc, table, options.context()) {
+    match Context::of_group(alloc, table, limits.context()) {
         Ok(context) => {
             prove!(context.len() > 0);
             Ok(context)

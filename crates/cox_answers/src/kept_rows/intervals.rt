@@ -3,7 +3,6 @@ ghost use Rattle.std.specs.Prelude.{◌≡◌, ◌≤◌, None, Err, IfErr, OnOk
 ghost use Rattle.cox_base.specs.Matrix.{IsWord};
 ghost use Rattle.cox_base.specs.Admissible.{IsCoxeterMatrix};
 ghost use Rattle.cox_base.specs.IntegerMatrix.{integer_matrix};
-ghost use Rattle.cox_replies.specs.SessionLimits.{limits_of};
 ghost use Rattle.cox_replies.specs.Listed.{RefusesLargeOr};
 ghost use Rattle.cox_replies.specs.declared.unanswered.Unanswered.TheVariants.{NoMemory};
 ghost use Rattle.cox_answers.specs.Kept.{AreKept, AreGrown, HoldsElement, IsStillKnown, Keeps};
@@ -12,8 +11,7 @@ use crate::kept_rows::KeptRows;
 use cox_base::{MAX_RANK, Word};
 use cox_context::{ContextFault, MAX_MEMBERS};
 use cox_minroots::RootTable;
-use cox_options::Options;
-use cox_replies::{Unanswered, interval_of};
+use cox_replies::{Limits, Unanswered, interval_of};
 use cox_rows::Rows;
 use std::alloc::{AllocError, Global};
 
@@ -25,22 +23,22 @@ pub fn keep_interval(
     alloc: Global,
     kept: &mut KeptRows,
     table: &RootTable,
-    options: Options,
+    limits: Limits,
     w: &Word,
 ) -> Result<u32, Unanswered>
     requires word { IsWord table.now.rank w.now.items }
-    requires kept { AreKept table.now (limits_of options) kept.old.rows }
-    ensures kept { AreKept table.now (limits_of options) kept.new.rows }
-    ensures interval { Keeps result (RefusesLargeOr (limits_of options) (integer_matrix table.now) w.now.items ⊥)
+    requires kept { AreKept table.now limits kept.old.rows }
+    ensures kept { AreKept table.now limits kept.new.rows }
+    ensures interval { Keeps result (RefusesLargeOr limits (integer_matrix table.now) w.now.items ⊥)
         (HoldsElement (integer_matrix table.now) w.now.items) kept.new.rows }
     ensures memory { result ≡ Err NoMemory → kept.new.rows ≡ None }
     ensures group { IsCoxeterMatrix table.now }
 {
     prove!(table.group().rank() as usize <= MAX_RANK);
-    match kept.extend_or_give_up(table, w, options.context()) {
+    match kept.extend_or_give_up(table, w, limits.context()) {
         Some(Ok(i)) => Ok(i),
         Some(Err(ContextFault::NoMemory)) => Err(Unanswered::NoMemory),
-        _ => keep_alone(alloc, kept.change(), table, options, w),
+        _ => keep_alone(alloc, kept.change(), table, limits, w),
     }
 }
 
@@ -50,20 +48,20 @@ pub fn add_interval(
     alloc: Global,
     kept: &mut KeptRows,
     table: &RootTable,
-    options: Options,
+    limits: Limits,
     w: &Word,
 ) -> Result<(), AllocError>
     requires word { IsWord table.now.rank w.now.items }
-    requires kept { AreKept table.now (limits_of options) kept.old.rows }
-    ensures kept { AreKept table.now (limits_of options) kept.new.rows }
+    requires kept { AreKept table.now limits kept.old.rows }
+    ensures kept { AreKept table.now limits kept.new.rows }
     ensures grown { OnOk result (AreGrown kept.old.rows kept.new.rows) }
     ensures known { OnOk result (IsStillKnown kept.old.rows kept.new.rows kept.old.whole kept.new.whole) }
     ensures memory { IfErr result (λ _. kept.new.rows ≡ None) }
 {
-    match kept.extend_or_give_up(table, w, options.context()) {
+    match kept.extend_or_give_up(table, w, limits.context()) {
         Some(Err(ContextFault::NoMemory)) => Err(AllocError),
         Some(_) => Ok(()),
-        None => match keep_alone(alloc, kept.change(), table, options, w) {
+        None => match keep_alone(alloc, kept.change(), table, limits, w) {
             Err(Unanswered::NoMemory) => Err(AllocError),
             _ => Ok(()),
         },
@@ -71,16 +69,16 @@ pub fn add_interval(
 }
 
 /// Adds the elements below w to what is kept, if it has at most `most` members then. Otherwise nothing changes.
-pub fn widen(kept: &mut KeptRows, table: &RootTable, options: Options, w: &Word, most: u32)
+pub fn widen(kept: &mut KeptRows, table: &RootTable, limits: Limits, w: &Word, most: u32)
     requires word { IsWord table.now.rank w.now.items }
     requires some { 1 ≤ most }
-    requires limit { most ≤ options.context }
-    requires kept { AreKept table.now (limits_of options) kept.old.rows }
-    ensures kept { AreKept table.now (limits_of options) kept.new.rows }
+    requires limit { most ≤ limits.context }
+    requires kept { AreKept table.now limits kept.old.rows }
+    ensures kept { AreKept table.now limits kept.new.rows }
     ensures grown { AreGrown kept.old.rows kept.new.rows }
     ensures known { IsStillKnown kept.old.rows kept.new.rows kept.old.whole kept.new.whole }
 {
-    prove!(options.context() <= MAX_MEMBERS);
+    prove!(limits.context() <= MAX_MEMBERS);
     let _ = kept.extend(table, w, most);
 }
 
@@ -91,21 +89,21 @@ fn keep_alone(
     alloc: Global,
     kept: &mut Option<Rows>,
     table: &RootTable,
-    options: Options,
+    limits: Limits,
     w: &Word,
 ) -> Result<u32, Unanswered>
     requires { IsWord table.now.rank w.now.items }
-    ensures kept { AreKept table.now (limits_of options) kept.new }
-    ensures interval { Keeps result (RefusesLargeOr (limits_of options) (integer_matrix table.now) w.now.items ⊥)
+    ensures kept { AreKept table.now limits kept.new }
+    ensures interval { Keeps result (RefusesLargeOr limits (integer_matrix table.now) w.now.items ⊥)
         (HoldsElement (integer_matrix table.now) w.now.items) kept.new }
     ensures none { IfErr result (λ _. kept.new ≡ None) }
     ensures group { IsCoxeterMatrix table.now }
 {
     *kept = None;
-    let context = interval_of(alloc, table, options, w)?;
+    let context = interval_of(alloc, table, limits, w)?;
     let Some(i) = context.number_of(table, w) else {
         unreachable!();
     };
-    *kept = Some(Rows::new(alloc, context, options.coef())?);
+    *kept = Some(Rows::new(alloc, context, limits.coefficient())?);
     Ok(i)
 }

@@ -6,7 +6,6 @@ ghost use Rattle.cox_base.specs.Matrix.{IsWord};
 ghost use Rattle.cox_base.specs.Bruhat.{IsBelow};
 ghost use Rattle.cox_base.specs.Members.{IsInInterval};
 ghost use Rattle.cox_base.specs.SortedList.{HasMoreThan};
-ghost use Rattle.cox_replies.specs.SessionLimits.{limits_of};
 ghost use Rattle.cox_replies.specs.GroupReply.{RefusesGroupRows};
 ghost use Rattle.cox_replies.specs.Question.{IsRefused};
 ghost use Rattle.cox_replies.specs.RowReply.{RefusesRow};
@@ -25,7 +24,7 @@ impl Workspace {
     pub(crate) fn rows(&self) -> &Rows
         requires { IsSome self.now.rows }
         ensures rows { self.now.rows ≡ Some result.now }
-        ensures of { AreOf self.now.table (limits_of self.now.options) result.now }
+        ensures of { AreOf self.now.table self.now.limits result.now }
         ensures group { IsCoxeterMatrix self.now.table }
     {
         prove!(self.rank() as usize <= MAX_RANK);
@@ -46,9 +45,9 @@ impl Workspace {
     pub(crate) fn number_of(&self, w: &Word) -> Option<u32>
         requires { IsWord self.now.table.rank w.now.items }
         ensures number { IfSome result (λ i. IsSomeAnd self.now.rows (HoldsElement (integer_matrix self.now.table) w.now.items i)) }
-        ensures few { IfSome result (λ _. HasMoreThan (limits_of self.now.options).context
+        ensures few { IfSome result (λ _. HasMoreThan self.now.limits.context
             (IsInInterval (integer_matrix self.now.table) w.now.items) → ⊥) }
-        ensures kept { AreKept self.now.table (limits_of self.now.options) self.now.rows }
+        ensures kept { AreKept self.now.table self.now.limits self.now.rows }
     {
         match self.kept.rows() {
             Some(rows) => rows.context().number_of(self.table(), w),
@@ -74,8 +73,8 @@ impl Workspace {
         requires { IsWord self.now.table.rank w.now.items }
         ensures row { IfSome result (λ i. IsSomeAnd self.now.rows (HoldsRow (integer_matrix self.now.table) w.now.items i)) }
         ensures free { IfSome result (λ _. IsRefused
-            (RefusesRow (limits_of self.now.options) (integer_matrix self.now.table) w.now.items) None) }
-        ensures kept { AreKept self.now.table (limits_of self.now.options) self.now.rows }
+            (RefusesRow self.now.limits (integer_matrix self.now.table) w.now.items) None) }
+        ensures kept { AreKept self.now.table self.now.limits self.now.rows }
         ensures group { IsCoxeterMatrix self.now.table }
     {
         prove!(self.rank() as usize <= MAX_RANK);
@@ -89,8 +88,8 @@ impl Workspace {
     /// Whether the rows of all elements of the group are kept, and the members are in ShortLex order. Then they are not refused.
     pub(crate) fn has_group(&self) -> bool
         ensures rows { IsTrue result ↔ IsSomeAnd self.now.rows (HoldsAll (integer_matrix self.now.table)) }
-        ensures free { IsTrue result → IsRefused (RefusesGroupRows (limits_of self.now.options) (integer_matrix self.now.table)) None }
-        ensures kept { AreKept self.now.table (limits_of self.now.options) self.now.rows }
+        ensures free { IsTrue result → IsRefused (RefusesGroupRows self.now.limits (integer_matrix self.now.table)) None }
+        ensures kept { AreKept self.now.table self.now.limits self.now.rows }
         ensures group { IsCoxeterMatrix self.now.table }
     {
         prove!(self.rank() as usize <= MAX_RANK);

@@ -3,7 +3,6 @@ ghost use Rattle.std.specs.Prelude.{◌≡◌, None, Err, IfErr, OnOk};
 ghost use Rattle.cox_base.specs.Admissible.{IsCoxeterMatrix};
 ghost use Rattle.cox_base.specs.IntegerMatrix.{integer_matrix};
 ghost use Rattle.cox_base.specs.Matrix.{IsWord};
-ghost use Rattle.cox_replies.specs.SessionLimits.{limits_of};
 ghost use Rattle.cox_replies.specs.Listed.{RefusesLargeOr};
 ghost use Rattle.cox_replies.specs.declared.unanswered.Unanswered.TheVariants.{NoMemory};
 ghost use Rattle.cox_answers.specs.Kept.{AreKept, AreGrown, HoldsElement, IsSameWorkspace, IsStillKnown, Keeps};
@@ -20,15 +19,15 @@ impl Workspace {
     pub(crate) fn keep_interval(&mut self, alloc: Global, w: &Word) -> Result<u32, Unanswered>
         requires { IsWord self.old.table.rank w.now.items }
         ensures same { IsSameWorkspace self.old self.new }
-        ensures kept { AreKept self.old.table (limits_of self.old.options) self.new.rows }
-        ensures interval { Keeps result (RefusesLargeOr (limits_of self.old.options) (integer_matrix self.old.table) w.now.items ⊥)
+        ensures kept { AreKept self.old.table self.old.limits self.new.rows }
+        ensures interval { Keeps result (RefusesLargeOr self.old.limits (integer_matrix self.old.table) w.now.items ⊥)
             (HoldsElement (integer_matrix self.old.table) w.now.items) self.new.rows }
         ensures memory { result ≡ Err NoMemory → self.new.rows ≡ None }
         ensures group { IsCoxeterMatrix self.old.table }
     {
         prove!(self.rank() as usize <= MAX_RANK);
         self.take_group();
-        keep_interval(alloc, &mut self.kept, self.roots.table(), self.options, w)
+        keep_interval(alloc, &mut self.kept, self.roots.table(), self.limits, w)
     }
 
     /// Takes the whole group, if what is kept is a good part of it. No answer depends on it: members and rows that are kept stay.
@@ -41,13 +40,13 @@ impl Workspace {
             Some(rows) => rows.context().len(),
             None => 0,
         };
-        let Some(most) = self.policy.next_try(count, self.options.context()) else {
+        let Some(most) = self.policy.next_try(count, self.limits.context()) else {
             return;
         };
         let table = self.roots.table();
         prove!(table.group().rank() as usize <= MAX_RANK);
         if let Some(longest) = longest_of_few(table) {
-            widen(&mut self.kept, table, self.options, &longest, most);
+            widen(&mut self.kept, table, self.limits, &longest, most);
         }
     }
 
@@ -59,6 +58,6 @@ impl Workspace {
         ensures memory { IfErr result (λ _. self.new.rows ≡ None) }
     {
         self.take_group();
-        add_interval(alloc, &mut self.kept, self.roots.table(), self.options, w)
+        add_interval(alloc, &mut self.kept, self.roots.table(), self.limits, w)
     }
 }

@@ -59,7 +59,7 @@ impl Session {
         }
     }
 
-    /// Sets the group, unless it has more small roots than the options admit.
+    /// Sets the group, unless it has more small roots than the limits admit.
     fn set_group(&mut self, group: &Coxeter, out: &mut Vec<u8>) -> Result<Said, AllocError>
         ensures ok { IfOk result (λ said. (reply : Reply) × IsCommandReply (Group group.now) self.old reply
             × Says said reply self.new out.old.items out.new.items) }
@@ -67,10 +67,10 @@ impl Session {
             × SaysPrefix reply self.old self.new out.old.items out.new.items) }
     {
         prove!(group.rank() as usize <= MAX_RANK);
-        let options = self.options();
-        match RootTable::build(*out.allocator(), group, options.roots()) {
+        let limits = self.limits();
+        match RootTable::build(*out.allocator(), group, limits.roots()) {
             Ok(table) => {
-                let work = Workspace::new(*out.allocator(), table, options)?;
+                let work = Workspace::new(*out.allocator(), table, limits)?;
                 self.stage = Stage::Set(work);
                 Ok(Said::Answered)
             }

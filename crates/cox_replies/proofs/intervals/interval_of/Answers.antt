@@ -34,7 +34,7 @@ pub returns-in-Ok-clause-members : goal.returns-in-Ok-clause-members
 returns-in-Ok-clause-members c = (
   c.in-Ok.ensures.members,
   HasMoreThan-few (IsInInterval
-      (integer_matrix c.args.table.now) c.args.w.now.items) c.args.options.context c.in-Ok.context.members
+      (integer_matrix c.args.table.now) c.args.w.now.items) c.args.limits.context c.in-Ok.context.members
       c.in-Ok.ensures.members (omega (arith, c.in-Ok.ensures.few, c.context.ensures.context)),
 )
 
@@ -50,7 +50,7 @@ returns-in-Err-Size c =
         λ none. none,
         inl (
           interval-size
-              (integer_matrix c.args.table.now) admissible c.args.options.context c.args.w.now.items (omega arith) _ _ _
+              (integer_matrix c.args.table.now) admissible c.args.limits.context c.args.w.now.items (omega arith) _ _ _
               c.in-Err-Size.field-0-is refusal,
           refl,
         ),

@@ -1,6 +1,5 @@
 -- The proof of `put_betti`.
 use Rattle.cox_base.specs.IntegerMatrix.{integer_matrix}
-use Rattle.cox_replies.specs.SessionLimits.{limits_of}
 use Rattle.cox_replies.proofs.IntervalTexts.{PutsUnless-given}
 use Rattle.cox_replies.proofs.intervals.put_betti.Goals as goal
 
@@ -11,4 +10,4 @@ returns c =
     let told = c.in_ok-context.ensures {u = tt} in
     let some = rw told.matrix at
     (c.put_counts.ensures c.args.w.now.items (rw told.matrix told.members.0) (rw told.matrix c.length.ensures.length)) in
-    rw c.unrefused.ensures (PutsUnless-given (limits_of c.args.options) A c.args.w.now.items _ context _ _ _ told.members some)
+    rw c.unrefused.ensures (PutsUnless-given c.args.limits A c.args.w.now.items _ context _ _ _ told.members some)

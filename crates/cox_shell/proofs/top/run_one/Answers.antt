@@ -1,18 +1,25 @@
--- The arguments give the limits of the options, or none.
+-- The arguments give the options, or none.
 use Rattle.std.proofs.Common.{Err, ap, ◌∙◌}
 use Rattle.cox_shell.specs.Top.{argument_texts}
-use Rattle.cox_shell.proofs.WrittenByRun.{options-given}
 use Rattle.cox_shell.proofs.top.run_one.Goals as goal
 
 pub returns-in-Ok-clause-run : goal.returns-in-Ok-clause-run
 returns-in-Ok-clause-run g c = c.run_session.ensures.run (argument_texts c.args.words.now)
-    (options-given c.in-Ok.options (argument_texts c.args.words.now) c.in-Ok.ensures.taken c.in-Ok.ensures.context c.in-Ok.ensures.coef
-    c.in-Ok.ensures.roots)
+    (record {
+      taken = c.in-Ok.ensures.taken;
+      context = c.in-Ok.ensures.context;
+      coef = c.in-Ok.ensures.coef;
+      roots = c.in-Ok.ensures.roots;
+    })
 
 pub returns-in-Ok-clause-reading : goal.returns-in-Ok-clause-reading
 returns-in-Ok-clause-reading g c = c.run_session.ensures.reading (argument_texts c.args.words.now)
-    (options-given c.in-Ok.options (argument_texts c.args.words.now) c.in-Ok.ensures.taken c.in-Ok.ensures.context c.in-Ok.ensures.coef
-    c.in-Ok.ensures.roots)
+    (record {
+      taken = c.in-Ok.ensures.taken;
+      context = c.in-Ok.ensures.context;
+      coef = c.in-Ok.ensures.coef;
+      roots = c.in-Ok.ensures.roots;
+    })
 
 pub returns-in-Err-clause-run : goal.returns-in-Err-clause-run
 returns-in-Err-clause-run g c = c.refuse_arguments.ensures.run (argument_texts c.args.words.now) _

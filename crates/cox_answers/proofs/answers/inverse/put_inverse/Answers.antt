@@ -11,7 +11,6 @@ use Rattle.cox_reflect.proofs.Elements.{same-refl}
 use Rattle.cox_reflect.proofs.Bruhat.{below-refl}
 use Rattle.cox_context.specs.Closed.{Elements}
 use Rattle.cox_context.specs.Numbers.{word_at}
-use Rattle.cox_replies.specs.SessionLimits.{limits_of}
 use Rattle.cox_replies.specs.InverseReply.{inverse_limit}
 use Rattle.cox_answers.specs.KeptBetween.{IsReadOff}
 use Rattle.cox_answers.proofs.InverseRefusals.{ends-below, above-words, below-words, fault-inverse_beyond}
@@ -41,12 +40,11 @@ ends c =
     rw (matrix c) (ends-below (integer_matrix c.args.rows.now.elements.matrix) (admissible c) c.args.y.now.items c.args.w.now.items _ _
     (bottom c) (top c) c.requires.below)
 
--- the limit is that of the options
-limit : (c : After-inverse_limit-limit) → c.inverse_limit-limit.result ≡ inverse_limit (pos (limits_of c.args.options).coefficient)
+-- the limit is that of the session
+limit : (c : After-inverse_limit-limit) → c.inverse_limit-limit.result ≡ inverse_limit (pos c.args.limits.coefficient)
 limit c =
-    let entry : FitsSigned w64 c.coef.result = search rules in
-    let is : c.coef.result ≡ pos (limits_of c.args.options).coefficient = omega (arith, ints, c.coef.ensures.coef, c.coef.ensures.least) in
-    rw (to_z-of_z w64 c.coef.result entry, is) at c.inverse_limit-limit.ensures.limit
+    let entry : FitsSigned w64 c.coefficient.result = search rules in
+    rw (to_z-of_z w64 c.coefficient.result entry, c.coefficient.ensures.coefficient) at c.inverse_limit-limit.ensures.limit
 
 -- ---- read off
 
@@ -65,7 +63,7 @@ pub returns-in-Some : goal.returns-in-Some
 returns-in-Some c =
     let fits : FitsSigned w64 c.inverse_limit-limit.result = search rules in
     let at = (goal.at.returns-in-Some c).After-inverse_limit-limit in
-    rw c.unrefused.ensures (PutsUnless-inverse (limits_of c.args.options) (integer_matrix c.args.rows.now.elements.matrix) (admissible at)
+    rw c.unrefused.ensures (PutsUnless-inverse c.args.limits (integer_matrix c.args.rows.now.elements.matrix) (admissible at)
     c.args.y.now.items c.args.w.now.items _ _ (bottom at) (top at) _ _ _ _ c.requires.free
     (rw (matrix at, to_z-of_z w64 c.inverse_limit-limit.result fits, limit at) at
     c.polynomial-polynomial.ensures.within)
@@ -105,7 +103,7 @@ returns-in-Ok c =
     let fits : FitsSigned w64 c.inverse_limit-limit.result = search rules in
     let at = (goal.at.returns-in-Ok c).After-inverse_limit-limit in
     let told = c.in-Ok.ensures {u = tt} in
-    rw c.unrefused-in-Ok.ensures (PutsUnless-inverse (limits_of c.args.options) (integer_matrix c.args.rows.now.elements.matrix)
+    rw c.unrefused-in-Ok.ensures (PutsUnless-inverse c.args.limits (integer_matrix c.args.rows.now.elements.matrix)
     (admissible at) c.args.y.now.items c.args.w.now.items _ _ (bottom at) (top at) _ _ _ _ c.requires.free
     (rw (matrix at, to_z-of_z w64 c.inverse_limit-limit.result fits, limit at) at told.within)
     (rw (matrix at) at (c.polynomial.ensures c.context-context.result.now c.args.ends.low c.args.ends.high _ told.row))
@@ -118,8 +116,8 @@ returns-in-Err c =
     let A = integer_matrix c.args.rows.now.elements.matrix in
     let y = c.args.y.now.items in
     let w = c.args.w.now.items in
-    rw c.inverse_unanswered.ensures (PutsUnless-inverse_fault (limits_of c.args.options) A y w _ _ c.requires.free c.requires.below
+    rw c.inverse_unanswered.ensures (PutsUnless-inverse_fault c.args.limits A y w _ _ c.requires.free c.requires.below
     c.in-Err.fault (λ other. fault-inverse_beyond A (admissible at) y w _ _ (bottom at) (top at)
     c.context-context.result.now (ap (λ (m : CoxeterMatrix). integer_matrix m) (matrix at)) c.args.ends.low c.args.ends.high
-    refl refl (limits_of c.args.options).coefficient c.in-Err.fault other
+    refl refl c.args.limits.coefficient c.in-Err.fault other
     (rw (to_z-of_z w64 c.inverse_limit-limit.result fits, limit at) at (c.in-Err.ensures {u = tt}).fault)))

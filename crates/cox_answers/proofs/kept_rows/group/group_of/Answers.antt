@@ -8,6 +8,6 @@ pub returns-in-Ok-clause-members : goal.returns-in-Ok-clause-members
 returns-in-Ok-clause-members c =
     let told = c.in-Ok.ensures in (
       told.members,
-      not-too_large (integer_matrix c.args.table.now) c.args.options.context c.in-Ok.context.members
+      not-too_large (integer_matrix c.args.table.now) c.args.limits.context c.in-Ok.context.members
           (rw told.matrix at c.len.ensures.closed) told.members (omega (arith, told.few, c.context.ensures.context)),
     )

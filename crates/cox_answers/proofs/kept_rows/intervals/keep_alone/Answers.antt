@@ -1,9 +1,8 @@
 -- The proof of `keep_alone`.
-use Rattle.std.proofs.Common.{arith}
-use Rattle.std.proofs.lemmas.Int.{ints}
+use Rattle.std.proofs.Common.{◌∙◌, rules, w64, FitsSigned}
+use Rattle.std.proofs.lemmas.Int.{to_z-of_z}
 use Rattle.cox_base.specs.IntegerMatrix.{integer_matrix}
 use Rattle.cox_base.proofs.AdmissibleMatrices.{IsAdmissible-integer_matrix}
-use Rattle.cox_replies.specs.SessionLimits.{limits_of}
 use Rattle.cox_replies.proofs.LargeOr.{large_or-allowed}
 use Rattle.cox_replies.proofs.OwnIntervals.{interval-member}
 use Rattle.cox_answers.proofs.kept_rows.intervals.keep_alone.Goals as goal
@@ -19,9 +18,10 @@ pub returns-clause-kept : goal.returns-clause-kept
 returns-clause-kept c =
     let told = c.in_ok-context.ensures {u = tt} in
     let made = c.in_ok-new.ensures {u = tt} in
+    let entry : FitsSigned w64 c.coefficient.result = search rules in
     rw made (record {
       group = told.matrix;
-      limit = omega (arith, ints, c.coef.ensures.coef, c.coef.ensures.least, c.coef.ensures.most);
+      limit = to_z-of_z w64 c.coefficient.result entry ∙ c.coefficient.ensures.coefficient;
       few = told.few;
     })
 
@@ -30,6 +30,6 @@ returns-clause-interval c =
     let A = integer_matrix c.args.table.now in
     let told = c.in_ok-context.ensures {u = tt} in
     let made = c.in_ok-new.ensures {u = tt} in (
-      large_or-allowed (limits_of c.args.options) A c.args.w.now.items ⊥ told.members.1 (λ none. none),
+      large_or-allowed c.args.limits A c.args.w.now.items ⊥ told.members.1 (λ none. none),
       rw made (c.in-Some.ensures {u = tt}),
     )

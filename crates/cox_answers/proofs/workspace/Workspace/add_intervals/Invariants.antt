@@ -1,4 +1,4 @@
--- The group and the options stay.
+-- The group and the limits stay.
 use Rattle.cox_answers.specs.Kept.{IsSameWorkspace}
 use Rattle.cox_answers.proofs.workspace.Workspace.add_intervals.Given as goal
 

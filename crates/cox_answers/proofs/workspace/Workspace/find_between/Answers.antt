@@ -5,7 +5,6 @@ use Rattle.cox_base.specs.IntegerMatrix.{integer_matrix}
 use Rattle.cox_base.specs.Bruhat.{IsBelow}
 use Rattle.cox_base.proofs.AdmissibleMatrices.{IsAdmissible-integer_matrix}
 use Rattle.cox_context.specs.Closed.{IsClosed}
-use Rattle.cox_replies.specs.SessionLimits.{limits_of}
 use Rattle.cox_answers.specs.KeptBetween.{HoldsEnds, IsReadOff}
 use Rattle.cox_replies.proofs.LargeOr.{large_or-allowed}
 use Rattle.cox_answers.proofs.KeptBetween.{read_off-keeps}
@@ -17,14 +16,14 @@ returns-then-not-below c =
     let w = c.args.w.now.items in
     let says = rw c.table.ensures at c.below.ensures in (
       λ below. false≢true (sym c.if-not-below.true ∙ says.1 below),
-      large_or-allowed (limits_of c.args.self.now.options) A w ⊥ c.in_ok-high.ensures.few (λ nothing. nothing),
+      large_or-allowed c.args.self.now.limits A w ⊥ c.in_ok-high.ensures.few (λ nothing. nothing),
     )
 
 pub returns : goal.returns
 returns c =
     let G = c.args.self.now.table in
     let A = integer_matrix G in
-    let limits = limits_of c.args.self.now.options in
+    let limits = c.args.self.now.limits in
     let y = c.args.y.now.items in
     let w = c.args.w.now.items in
     let ends = c.ends_of.result in

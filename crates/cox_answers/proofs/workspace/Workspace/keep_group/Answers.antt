@@ -2,7 +2,6 @@
 use Rattle.std.proofs.Common.{◌≡◌, sym, ap, ◌∙◌}
 use Rattle.cox_base.specs.IntegerMatrix.{integer_matrix}
 use Rattle.cox_base.proofs.AdmissibleMatrices.{IsAdmissible-integer_matrix}
-use Rattle.cox_replies.specs.SessionLimits.{limits_of}
 use Rattle.cox_answers.specs.Kept.{WorkspaceState, KeptState, IsMore}
 use Rattle.cox_answers.proofs.KnownRows.{still-known, known-taken, more-trans}
 use Rattle.cox_answers.proofs.WholeGroups.{not-large, group-keeps}
@@ -21,10 +20,10 @@ put_back-requires g c =
 pub returns-clause-rows : goal.returns-clause-rows
 returns-clause-rows g c =
     let G = c.args.self.now.table in
-    let limits = limits_of c.args.self.now.options in
+    let limits = c.args.self.now.limits in
     let table : c.self.inside.roots ≡ G = ap (λ (work : WorkspaceState). work.table) c.self.view_is in
-    let options : c.self.inside.options ≡ c.args.self.now.options = ap (λ (work : WorkspaceState). work.options) c.self.view_is in
-    let told = rw (c.table.ensures, table, options) at (c.in_ok-keep_elements.ensures {u = tt}) in
+    let same_limits : c.self.inside.limits ≡ c.args.self.now.limits = ap (λ (work : WorkspaceState). work.limits) c.self.view_is in
+    let told = rw (c.table.ensures, table, same_limits) at (c.in_ok-keep_elements.ensures {u = tt}) in
     let is = sym c.take.ensures.taken ∙ c.in-Some.is in
     let made = c.ensure_all-made.ensures in
     rw (c.unless_fault.ensures, c.put_back.ensures.rows)

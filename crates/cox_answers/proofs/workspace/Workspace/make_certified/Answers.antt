@@ -1,6 +1,5 @@
 -- The proof of `make_certified`.
 use Rattle.cox_base.specs.IntegerMatrix.{integer_matrix}
-use Rattle.cox_replies.specs.SessionLimits.{limits_of}
 use Rattle.cox_replies.specs.RowReply.{RefusesRow}
 use Rattle.cox_replies.specs.CertReply.{RefusesListedOr, RefusesCert}
 use Rattle.cox_answers.specs.Kept.{AreOf, HoldsElement, HoldsRow}
@@ -13,7 +12,7 @@ pub returns-in-Err-clause-made : goal.returns-in-Err-clause-made
 returns-in-Err-clause-made g c =
     let G = c.args.self.now.table in
     let A = integer_matrix G in
-    let limits = limits_of c.args.self.now.options in
+    let limits = c.args.self.now.limits in
     let w = c.args.w.now.items in
     let told = c.in_ok-i.ensures {u = tt} in
     let rows = c.rows.result.now in
@@ -28,7 +27,7 @@ pub returns-in-Ok-clause-made : goal.returns-in-Ok-clause-made
 returns-in-Ok-clause-made g c =
     let G = c.args.self.now.table in
     let A = integer_matrix G in
-    let limits = limits_of c.args.self.now.options in
+    let limits = c.args.self.now.limits in
     let w = c.args.w.now.items in
     let told = c.in_ok-i.ensures {u = tt} in
     let rows = c.rows.result.now in
@@ -37,7 +36,7 @@ returns-in-Ok-clause-made g c =
     let few = large-free limits A w told.interval.0 in
     let listed = rw (of.group, c.in-Ok.is) at (c.listed_below.ensures.list limits w (rw of.group holds.1) (rw of.group few)) in
     let same = c.make_row.ensures.same in
-    let made = rw (told.same.table, told.same.options) at c.make_row.ensures.row in
-    rw (same.table, same.options, told.same.table, told.same.options) (Makes-kept (RefusesRow limits A w) (RefusesCert limits A w)
+    let made = rw (told.same.table, told.same.limits) at c.make_row.ensures.row in
+    rw (same.table, same.limits, told.same.table, told.same.limits) (Makes-kept (RefusesRow limits A w) (RefusesCert limits A w)
     (λ why refused. cert-row limits A w why few listed.0 refused) (HoldsRow A w) c.make_row.new.self.rows _
     (λ i free held. (held, free)) c.make_row.result (made w told.interval.1 few))

@@ -1,7 +1,6 @@
 -- The proof of `make_row`.
 use Rattle.std.proofs.Common.{◌≡◌, Some, sym, ap, ◌∙◌}
 use Rattle.cox_base.proofs.AdmissibleMatrices.{IsAdmissible-integer_matrix}
-use Rattle.cox_replies.specs.SessionLimits.{limits_of}
 use Rattle.cox_answers.specs.Kept.{WorkspaceState}
 use Rattle.cox_answers.proofs.MadeRows.{still-keeps}
 use Rattle.cox_answers.proofs.KnownRows.{still-known, known-taken, more-ensured, are-more}
@@ -22,7 +21,7 @@ returns-clause-row g c = λ w element few.
     sym (ap (λ (work : WorkspaceState). work.rows) c.self.view_is) ∙ sym c.take.ensures.taken ∙ c.in-Some.is in
     let made = c.ensure-made.ensures in
     rw (c.unless_fault.ensures, c.put_back.ensures.rows)
-    (still-keeps (limits_of c.args.self.now.options) G (IsAdmissible-integer_matrix G c.requires.group) w c.args.i
+    (still-keeps c.args.self.now.limits G (IsAdmissible-integer_matrix G c.requires.group) w c.args.i
     c.in-Some.rows c.with_rows-rows.result c.ensure-made.new.self (rw is at c.requires.kept) (rw is at element) c.with_rows-rows.ensures
     made.rows few c.ensure-made.result made.there made.small made.fault)
 

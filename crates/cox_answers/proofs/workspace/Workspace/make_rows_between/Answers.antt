@@ -5,7 +5,6 @@ use Rattle.cox_base.specs.IntegerMatrix.{integer_matrix}
 use Rattle.cox_base.proofs.AdmissibleMatrices.{IsAdmissible-integer_matrix}
 use Rattle.cox_context.specs.Closed.{IsClosed}
 use Rattle.cox_inverse.specs.Intervals.{IsInterval}
-use Rattle.cox_replies.specs.SessionLimits.{limits_of}
 use Rattle.cox_answers.specs.Kept.{WorkspaceState, AreOf}
 use Rattle.cox_answers.specs.KeptBetween.{HoldsEnds}
 use Rattle.cox_answers.proofs.KnownRows.{still-known, known-taken, more-trans, are-more}
@@ -46,7 +45,7 @@ pub returns-clause-rows : goal.returns-clause-rows
 returns-clause-rows g c =
     let G = c.args.self.now.table in
     let A = integer_matrix G in
-    let limits = limits_of c.args.self.now.options in
+    let limits = c.args.self.now.limits in
     let y = c.args.y.now.items in
     let w = c.args.w.now.items in
     let ends = c.args.ends in

@@ -2,7 +2,6 @@
 use Rattle.std.proofs.Common.{◌≡◌, ℕ, List, refl}
 use Rattle.cox_base.specs.IntegerMatrix.{integer_matrix}
 use Rattle.cox_base.proofs.AdmissibleMatrices.{IsAdmissible-integer_matrix}
-use Rattle.cox_replies.specs.SessionLimits.{limits_of}
 use Rattle.cox_answers.specs.Kept.{WorkspaceState}
 use Rattle.cox_answers.specs.KeptBetween.{HoldsBetween}
 use Rattle.cox_replies.proofs.Unless.{PutsUnless-put}
@@ -28,7 +27,7 @@ unreachable-requires c = nothing-else c.args.self.now c.args.y.now.items c.args.
 pub returns-in-Apart : goal.returns-in-Apart
 returns-in-Apart c =
     let A = integer_matrix c.args.self.now.table in
-    let limits = limits_of c.args.self.now.options in
+    let limits = c.args.self.now.limits in
     let y = c.args.y.now.items in
     let w = c.args.w.now.items in
     let has : HasBetween c.args.self.now y w Apart = rw c.in-Apart.is at c.requires in
@@ -44,12 +43,12 @@ put_inverse-requires c =
     let held : HoldsBetween (integer_matrix c.args.self.now.table) y w c.in-Between.ends c.rows.result.now
     = rw c.rows.ensures.rows at has.1 in
     record {
-      rows = rw c.options.ensures (rw (← of.group) at of);
+      rows = rw c.limits.ensures (rw (← of.group) at of);
       below = rw (← of.group) at has.0;
       held = rw (← of.group) at held;
-      free = rw c.options.ensures (rw (← of.group) at has.2);
+      free = rw c.limits.ensures (rw (← of.group) at has.2);
       whole = rw c.rows.ensures.rows at c.whole_group-whole.ensures;
     }
 
 pub returns-in-Between : goal.returns-in-Between
-returns-in-Between c = rw (c.options.ensures, c.rows.ensures.of.group) at c.put_inverse.ensures
+returns-in-Between c = rw (c.limits.ensures, c.rows.ensures.of.group) at c.put_inverse.ensures

@@ -2,7 +2,6 @@
 use Rattle.std.proofs.Common.{subst}
 use Rattle.cox_base.specs.Matrix.{CoxeterMatrix}
 use Rattle.cox_base.specs.IntegerMatrix.{integer_matrix}
-use Rattle.cox_replies.specs.SessionLimits.{limits_of}
 use Rattle.cox_replies.specs.CertReply.{RefusesCert, IsCertText}
 use Rattle.cox_answers.specs.Kept.{HoldsRow}
 use Rattle.cox_replies.specs.Putting.{PutsUnless}
@@ -11,15 +10,15 @@ use Rattle.cox_answers.specs.Needs.{HasGroup}
 use Rattle.cox_answers.proofs.workspace.Workspace.put_one.Goals as goal
 
 pub returns-in-Coatoms : goal.returns-in-Coatoms
-returns-in-Coatoms c = rw c.in-Coatoms.is (rw (c.options-options.ensures, c.table-table.ensures) at c.put_coatoms.ensures)
+returns-in-Coatoms c = rw c.in-Coatoms.is (rw (c.limits-limits.ensures, c.table-table.ensures) at c.put_coatoms.ensures)
 
 pub returns-in-Betti : goal.returns-in-Betti
-returns-in-Betti c = rw c.in-Betti.is (rw (c.options-options.ensures, c.table-table.ensures) at c.put_betti.ensures)
+returns-in-Betti c = rw c.in-Betti.is (rw (c.limits-limits.ensures, c.table-table.ensures) at c.put_betti.ensures)
 
 pub returns-in-Cert : goal.returns-in-Cert
 returns-in-Cert c =
     let A = integer_matrix c.args.self.now.table in
-    let limits = limits_of c.args.self.now.options in
+    let limits = c.args.self.now.limits in
     let w = c.args.w.now.items in
     let told = c.number_found-i.ensures in
     let rows = c.rows in

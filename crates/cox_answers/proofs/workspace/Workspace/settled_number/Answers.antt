@@ -4,7 +4,6 @@ use Rattle.cox_base.specs.IntegerMatrix.{integer_matrix}
 use Rattle.cox_base.specs.ShortLex.{normal_form}
 use Rattle.cox_base.proofs.AdmissibleMatrices.{IsAdmissible-integer_matrix}
 use Rattle.cox_context.specs.Numbering.{IsNumberOf}
-use Rattle.cox_replies.specs.SessionLimits.{limits_of}
 use Rattle.cox_answers.specs.Kept.{AreOf}
 use Rattle.cox_answers.proofs.MadeRows.{settled-keeps}
 use Rattle.cox_answers.proofs.workspace.Workspace.settled_number.Goals as goal
@@ -12,7 +11,7 @@ use Rattle.cox_answers.proofs.workspace.Workspace.settled_number.Goals as goal
 pub returns : goal.returns
 returns c =
     let G = c.args.self.now.table in
-    let limits = limits_of c.args.self.now.options in
+    let limits = c.args.self.now.limits in
     let w = c.args.w.now.items in
     let i = c.in_ok-i.i in
     let rows = c.rows.result.now in

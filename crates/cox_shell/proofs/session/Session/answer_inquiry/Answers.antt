@@ -1,7 +1,6 @@
 -- The proof of `Session::answer_inquiry`.
 use Rattle.std.proofs.Common.{◌≡◌, Some, IfOk, OnErr, sym, ap, ◌∙◌, subst}
 use Rattle.cox_base.proofs.AdmissibleMatrices.{IsAdmissible-integer_matrix}
-use Rattle.cox_replies.specs.SessionLimits.{limits_of}
 use Rattle.cox_replies.specs.Question.{Question}
 use Rattle.cox_replies.specs.InquiryQuestion.{question_of}
 use Rattle.cox_replies.proofs.Questions.{question-answerable}
@@ -28,14 +27,14 @@ returns g c =
     let list = c.self.inside.list in
     let was : state_of (Set work) list ≡ state = ap (λ (s : Stage). state_of s list) (sym c.in-Set.is) ∙ c.self.view_is in
     let set : state.group ≡ Some work.table = ap (λ (s : State). s.group) (sym was) in
-    let limits : limits_of work.options ≡ state.limits = ap (λ (s : State). s.limits) was in
+    let limits : work.limits ≡ state.limits = ap (λ (s : State). s.limits) was in
     let put = rw limits at told.puts in
     let some = IsReply-exists state question
     (question-answerable inquiry state.limits work.table (IsAdmissible-integer_matrix work.table told.group)) in
     let is : (reply : Reply) → Was reply
     → Is reply = λ reply decided. IsInquiryReply-decided inquiry state work.table reply set decided in
     let after : State = state_of (Set new_work) list in
-    let kept : after ≡ state = rw (told.same.table, told.same.options) was in
+    let kept : after ≡ state = rw (told.same.table, told.same.limits) was in
     let concludes = subst (λ (s : State). Concludes c.put_answer-put.result s c.conclude.result c.put_answer-put.new.out.items
     c.conclude.new.out.items) kept c.conclude.ensures in
     record {
